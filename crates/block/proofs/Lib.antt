@@ -1,0 +1,9 @@
+pub mod Bits
+pub mod Field
+pub mod Numbers
+pub mod Blocks
+pub mod Lists
+pub mod Parts
+pub mod Words
+pub mod WordBytes
+pub mod Undo

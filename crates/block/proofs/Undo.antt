@@ -1,0 +1,209 @@
+-- Undoing the products by x and by 1 + x. Assumes nothing.
+use mathlib.Core.Path.{_≡_, refl, sym, ap, ap₂, _∙_, subst}
+use Prim.Native.Nat.{ℕ, zero, suc, _+_, _-_, _*_, _/_, _%_, _^_, _≤_, _<_}
+use native.Mathlib.Nat.{mod-lt, zero-add, add-zero, mul-one, mul-assoc, mul-mod-left, div-add-mod', mul-add-mod-self-right, add-mul, mul-right-comm, lt-of-lt-of-le}
+use native.Mathlib.Omega.{arith}
+use lib.Dec.{lit<, lit≤}
+use lib.Pow.{pow-add, shr-lt, shl-shr, mod-pow-add}
+use lib.Arith.{digits-lt}
+use lib.Bits.{bitXor, bitOr, xor-block, xor-comm, xor-zero-r, xor-self, xor-lt, xor-mod, or-shifted, xor-shifted}
+use Rattle.block.proofs.Bits.{bit-cases, bit-lt, xor-assoc, xor-swap, xor-shl, xor-cancel-r}
+use Rattle.block.specs.Field.{times, double, horner, mul, x⁻¹, 1⊕x⁻¹}
+use Rattle.block.proofs.Field.{mul-add, mul-two-l, mul-three-l, double-add, double-small, x⁻¹-inverse, 1⊕x⁻¹-inverse}
+use Rattle.block.proofs.Words.{shifted, twice-mod, out, top-bit}
+
+-- ---- a word and its shift by k
+
+mod-times : (x k m : ℕ) → x % m * k % m ≡ x * k % m
+mod-times x k m =
+    sym
+    (ap (λ (y : ℕ). y * k % m) (sym (div-add-mod' x m))
+    ∙ ap (λ (y : ℕ). y % m) (add-mul (x / m * m) (x % m) k ∙ ap (λ (y : ℕ). y + x % m * k) (mul-right-comm (x / m) m k))
+    ∙ mul-add-mod-self-right (x / m * k) m (x % m * k))
+
+-- x ⊕ (x << k), in 64 bits
+abbrev over : ℕ → ℕ → ℕ
+over k x = bitXor x (x * 2 ^ k % 2 ^ 64)
+
+shl-add : (a b k : ℕ) → bitXor a b * 2 ^ k % 2 ^ 64 ≡ bitXor (a * 2 ^ k % 2 ^ 64) (b * 2 ^ k % 2 ^ 64)
+shl-add a b k = ap (λ (x : ℕ). x % 2 ^ 64) (xor-shl a b k) ∙ xor-mod (a * 2 ^ k) (b * 2 ^ k) 64
+
+shl-shl : (x j k : ℕ) → x * 2 ^ j % 2 ^ 64 * 2 ^ k % 2 ^ 64 ≡ x * 2 ^ (j + k) % 2 ^ 64
+shl-shl x j k =
+    mod-times (x * 2 ^ j) (2 ^ k) (2 ^ 64)
+    ∙ ap (λ (y : ℕ). y % 2 ^ 64) (mul-assoc x (2 ^ j) (2 ^ k) ∙ ap (λ (y : ℕ). x * y) (sym (pow-add 2 j k)))
+
+spread : (j k x : ℕ) → over j (over k x) ≡ bitXor (bitXor x (x * 2 ^ k % 2 ^ 64)) (bitXor (x * 2 ^ j % 2 ^ 64) (x * 2 ^ (k + j) % 2 ^ 64))
+spread j k x = ap (bitXor (over k x)) (shl-add x (x * 2 ^ k % 2 ^ 64) j ∙ ap (bitXor (x * 2 ^ j % 2 ^ 64)) (shl-shl x k j))
+
+-- shifts pass each other
+pass : (j k x : ℕ) → over j (over k x) ≡ over k (over j x)
+pass j k x =
+    let e : k + j ≡ j + k = omega arith in
+    spread j k x
+    ∙ ap (λ (n : ℕ). bitXor (bitXor x (x * 2 ^ k % 2 ^ 64)) (bitXor (x * 2 ^ j % 2 ^ 64) (x * 2 ^ n % 2 ^ 64))) e
+    ∙ xor-swap x (x * 2 ^ k % 2 ^ 64) (x * 2 ^ j % 2 ^ 64) (x * 2 ^ (j + k) % 2 ^ 64)
+    ∙ sym (spread k j x)
+
+-- twice by k is once by 2 k
+again : (k x : ℕ) → over k (over k x) ≡ over (k + k) x
+again k x =
+    spread k k x
+    ∙ xor-assoc x (x * 2 ^ k % 2 ^ 64) (bitXor (x * 2 ^ k % 2 ^ 64) (x * 2 ^ (k + k) % 2 ^ 64))
+    ∙ ap (bitXor x) (sym (xor-assoc (x * 2 ^ k % 2 ^ 64) (x * 2 ^ k % 2 ^ 64) (x * 2 ^ (k + k) % 2 ^ 64)) ∙ ap (λ (y : ℕ). bitXor y (x * 2 ^ (k + k) % 2 ^ 64)) (xor-self (x * 2 ^ k % 2 ^ 64)))
+
+all-out : (x : ℕ) → over 64 x ≡ x
+all-out x = ap (bitXor x) (mul-mod-left x (2 ^ 64)) ∙ xor-zero-r x
+
+pub prefix-xor-is : (x : ℕ) → over 1 (over 32 (over 16 (over 8 (over 4 (over 2 (over 1 x)))))) ≡ x
+prefix-xor-is x =
+    pass 1 32 (over 16 (over 8 (over 4 (over 2 (over 1 x)))))
+    ∙ ap (over 32)
+    (pass 1 16 (over 8 (over 4 (over 2 (over 1 x))))
+    ∙ ap (over 16)
+    (pass 1 8 (over 4 (over 2 (over 1 x)))
+    ∙ ap (over 8)
+    (pass 1 4 (over 2 (over 1 x))
+    ∙ ap (over 4) (pass 1 2 (over 1 x) ∙ ap (over 2) (again 1 x) ∙ again 2 x)
+    ∙ again 4 x)
+    ∙ again 8 x)
+    ∙ again 16 x)
+    ∙ again 32 x ∙ all-out x
+
+-- ---- a block
+
+pub spread-lt : (q : ℕ) → q < 2 → q * 0xffff_ffff_ffff_ffff < 2 ^ 64
+spread-lt = bit-cases (λ (q : ℕ). q * 0xffff_ffff_ffff_ffff < 2 ^ 64) (lit< tt) (lit< tt)
+
+-- a carry spread over a word
+carry : (q : ℕ) → q < 2 → bitXor (q * 0xffff_ffff_ffff_ffff) (q * 0xffff_ffff_ffff_ffff * 2 % 2 ^ 64) ≡ q
+carry = bit-cases (λ (q : ℕ). bitXor (q * 0xffff_ffff_ffff_ffff) (q * 0xffff_ffff_ffff_ffff * 2 % 2 ^ 64) ≡ q) refl refl
+
+tail : (q : ℕ) → q < 2 → mul 3 (q * 0x7d) ≡ times (q % 2) 0x87
+unfolding mul horner double times
+tail = bit-cases (λ (q : ℕ). mul 3 (q * 0x7d) ≡ times (q % 2) 0x87) refl refl
+
+module _ (hi lo g l : ℕ) (hl : l < 2 ^ 64) (hg : g < 2 ^ 64) (eg : over 1 g ≡ hi) (el : over 1 l ≡ lo) where
+  abbrev q : ℕ
+  q = l / 2 ^ 63
+
+  q-lt : q < 2
+  q-lt = shr-lt 1 63 hl
+
+  abbrev ones : ℕ
+  ones = q * 0xffff_ffff_ffff_ffff
+
+  ones-lt : ones < 2 ^ 64
+  ones-lt = spread-lt q q-lt
+
+  abbrev h : ℕ
+  h = bitXor g ones
+
+  pub hh : bitXor g (l / 2 ^ 63 * 0xffff_ffff_ffff_ffff) < 2 ^ 64
+  hh = xor-lt 64 g ones hg ones-lt
+
+  abbrev s : ℕ
+  s = h * 2 ^ 64 + l
+
+  upper : bitXor h (h * 2 % 2 ^ 64) ≡ bitXor hi q
+  upper =
+      ap (bitXor h) (shl-add g ones 1) ∙ xor-swap g ones (g * 2 % 2 ^ 64) (ones * 2 % 2 ^ 64)
+      ∙ ap₂ bitXor eg (carry q q-lt)
+
+  -- the sum with the shifted block
+  sum : bitXor (s * 2 % 2 ^ 128) s ≡ hi * 2 ^ 64 + lo
+  sum =
+      ap (λ (x : ℕ). bitXor x s) (shifted h l hh hl)
+      ∙ xor-block 64 (h % 2 ^ 63 * 2 + q) h (l * 2 % 2 ^ 64) l (mod-lt (l * 2) (lit< tt)) hl
+      ∙ ap₂ (λ (x y : ℕ). x * 2 ^ 64 + y)
+      (xor-comm (h % 2 ^ 63 * 2 + q) h
+      ∙ ap (bitXor h) (sym (xor-shifted (h % 2 ^ 63) 1 q q-lt) ∙ ap (λ (x : ℕ). bitXor x q) (sym (twice-mod h l hh hl)))
+      ∙ sym (xor-assoc h (h * 2 % 2 ^ 64) q)
+      ∙ ap (λ (x : ℕ). bitXor x q) upper ∙ xor-cancel-r hi q)
+      (xor-comm (l * 2 % 2 ^ 64) l ∙ el)
+
+  abbrev o : ℕ
+  o = h / 2 ^ 63
+
+  o-lt : o < 2
+  o-lt = shr-lt 1 63 hh
+
+  tail-lt : o * 0x7d < 2 ^ 64
+  tail-lt = let b = o-lt in omega arith
+
+  three : mul 3 (bitXor s (o * 0x7d)) ≡ hi * 2 ^ 64 + lo
+  unfolding double
+  three =
+      let t = times (o % 2) 0x87 in
+      let d = s * 2 % 2 ^ 128 in
+      mul-add 3 s (o * 0x7d)
+      ∙ ap₂ bitXor
+      (mul-three-l s ∙ ap (λ (y : ℕ). bitXor (bitXor d (times (y % 2) 0x87)) s) (out h l hh hl))
+      (tail o o-lt)
+      ∙ ap (λ (y : ℕ). bitXor y t) (ap (λ (y : ℕ). bitXor y s) (xor-comm d t) ∙ xor-assoc t d s ∙ xor-comm t (bitXor d s))
+      ∙ xor-cancel-r (bitXor d s) t
+      ∙ sum
+
+  whole-lt : bitXor s (o * 0x7d) < 2 ^ 128
+  whole-lt = xor-lt 128 s (o * 0x7d) (digits-lt {m = 2 ^ 64} {c = 2 ^ 64} hh hl) (lt-of-lt-of-le tail-lt (lit≤ tt))
+
+  pub undone-triple : bitXor g (l / 2 ^ 63 * 0xffff_ffff_ffff_ffff) * 2 ^ 64 + bitXor l (o * 0x7d) ≡ mul 1⊕x⁻¹ (hi * 2 ^ 64 + lo)
+  undone-triple =
+      ap (λ (x : ℕ). x * 2 ^ 64 + bitXor l (o * 0x7d)) (sym (xor-zero-r h))
+      ∙ sym (xor-block 64 h 0 l (o * 0x7d) hl tail-lt) ∙ ap (bitXor s) (zero-add (o * 0x7d))
+      ∙ sym (1⊕x⁻¹-inverse whole-lt) ∙ ap (mul 1⊕x⁻¹) three
+
+-- ---- x
+
+regroup : (a b c d : ℕ) → (a * 2 ^ 64 + (b * 2 ^ 63 + c)) * 2 + d ≡ (a * 2 + b) * 2 ^ 64 + (c * 2 + d)
+regroup a b c d = omega arith
+
+halved : (q : ℕ) → q < 2 → double (q * 0x8000_0000_0000_0000 * 2 ^ 64 + q * 0x43) ≡ q
+unfolding double times
+halved = bit-cases (λ (q : ℕ). double (q * 0x8000_0000_0000_0000 * 2 ^ 64 + q * 0x43) ≡ q) refl refl
+
+module _ (hi lo : ℕ) (hh : hi < 2 ^ 64) (hl : lo < 2 ^ 64) where
+  abbrev p : ℕ
+  p = lo % 2
+
+  low-word : bitOr (hi * 2 ^ 63 % 2 ^ 64) (lo / 2) ≡ hi % 2 * 2 ^ 63 + lo / 2
+  low-word =
+      let e : hi * 2 ^ 63 % 2 ^ 64 ≡ hi % 2 * 2 ^ 63 =
+      mod-pow-add (hi * 2 ^ 63) 1 63 ∙ ap₂ (λ (x y : ℕ). x % 2 * 2 ^ 63 + y) (shl-shr hi 63) (mul-mod-left hi (2 ^ 63)) ∙ add-zero (hi % 2 * 2 ^ 63) in
+      ap (λ (x : ℕ). bitOr x (lo / 2)) e ∙ or-shifted (hi % 2) 63 (lo / 2) (shr-lt 63 1 hl)
+
+  low-small : hi % 2 * 2 ^ 63 + lo / 2 < 2 ^ 64
+  low-small = digits-lt {m = 2} {c = 2 ^ 63} (bit-lt hi) (shr-lt 63 1 hl)
+
+  abbrev half : ℕ
+  half = hi / 2 * 2 ^ 64 + (hi % 2 * 2 ^ 63 + lo / 2)
+
+  half-lt : half < 2 ^ 127
+  half-lt = digits-lt {m = 2 ^ 63} {c = 2 ^ 64} (shr-lt 63 1 hh) low-small
+
+  both : half * 2 + p ≡ hi * 2 ^ 64 + lo
+  both = regroup (hi / 2) (hi % 2) (lo / 2) (lo % 2) ∙ ap₂ (λ (x y : ℕ). x * 2 ^ 64 + y) (div-add-mod' hi 2) (div-add-mod' lo 2)
+
+  abbrev corr : ℕ
+  corr = p * 0x8000_0000_0000_0000 * 2 ^ 64 + p * 0x43
+
+  p-lt : p < 2
+  p-lt = bit-lt lo
+
+  corr-low : p * 0x43 < 2 ^ 64
+  corr-low = let b = p-lt in omega arith
+
+  corr-high : p * 0x8000_0000_0000_0000 < 2 ^ 64
+  corr-high = let b = p-lt in omega arith
+
+  doubled : mul 2 (bitXor half corr) ≡ hi * 2 ^ 64 + lo
+  doubled =
+      mul-two-l (bitXor half corr) ∙ double-add half corr ∙ ap₂ bitXor (double-small half-lt) (halved p p-lt)
+      ∙ xor-shifted half 1 p p-lt ∙ both
+
+  pub undone-double : bitXor (hi / 2) (p * 0x8000_0000_0000_0000) * 2 ^ 64 + bitXor (bitOr (hi * 2 ^ 63 % 2 ^ 64) (lo / 2)) (p * 0x43) ≡ mul x⁻¹ (hi * 2 ^ 64 + lo)
+  undone-double =
+      ap (λ (x : ℕ). bitXor (hi / 2) (p * 0x8000_0000_0000_0000) * 2 ^ 64 + bitXor x (p * 0x43)) low-word
+      ∙ sym (xor-block 64 (hi / 2) (p * 0x8000_0000_0000_0000) (hi % 2 * 2 ^ 63 + lo / 2) (p * 0x43) low-small corr-low)
+      ∙ sym (x⁻¹-inverse (xor-lt 128 half corr (lt-of-lt-of-le half-lt (lit≤ tt)) (digits-lt {m = 2 ^ 64} {c = 2 ^ 64} corr-high corr-low)))
+      ∙ ap (mul x⁻¹) doubled

@@ -1,0 +1,86 @@
+-- Blocks as two words of 64 bits. Assumes nothing.
+use mathlib.Core.Path.{_≡_, refl, sym, ap, ap₂, _∙_, subst}
+use Prim.Native.Nat.{ℕ, zero, suc, _+_, _-_, _*_, _/_, _%_, _^_, _≤_, _<_}
+use native.Mathlib.Nat.{div-one, sub-zero, suc-sub-suc, mod-lt, zero-add, add-mul, mul-right-comm, mul-add-div-right, mul-add-mod-self-right}
+use native.Mathlib.Numerals.{add-one}
+use native.Mathlib.Omega.{arith}
+use lib.Dec.{lit<}
+use lib.Pow.{high, mod-pow-add, shr-shr, shr-lt}
+use lib.Bits.{bitXor, bitOr, xor-block, xor-zero-r, or-shifted}
+use Rattle.block.proofs.Bits.{bit-cases}
+use Rattle.block.specs.Field.{times, double, horner, mul}
+use Rattle.block.proofs.Field.{horner-append, horner-low}
+
+-- the double's shifted part, word by word
+module _ (h l : ℕ) (hh : h < 2 ^ 64) (hl : l < 2 ^ 64) where
+  pub twice-mod : h * 2 % 2 ^ 64 ≡ h % 2 ^ 63 * 2
+  twice-mod = omega arith
+
+  carried : l * 2 / 2 ^ 64 ≡ l / 2 ^ 63
+  carried = omega arith
+
+  joined : (q : ℕ) → q < 2 → (h * 2 + q) % 2 ^ 64 ≡ h % 2 ^ 63 * 2 + q
+  joined q hq = omega arith
+
+  upper : bitOr (h * 2 % 2 ^ 64) (l / 2 ^ 63) ≡ (h % 2 ^ 63) * 2 + l / 2 ^ 63
+  upper = ap (λ (x : ℕ). bitOr x (l / 2 ^ 63)) twice-mod ∙ or-shifted (h % 2 ^ 63) 1 (l / 2 ^ 63) (shr-lt 1 63 hl)
+
+  regroup : (h * 2 ^ 64 + l) * 2 ≡ h * 2 * 2 ^ 64 + l * 2
+  regroup = add-mul (h * 2 ^ 64) l 2 ∙ ap (λ (x : ℕ). x + l * 2) (mul-right-comm h (2 ^ 64) 2)
+
+  pub shifted : (h * 2 ^ 64 + l) * 2 % 2 ^ 128 ≡ ((h % 2 ^ 63) * 2 + l / 2 ^ 63) * 2 ^ 64 + l * 2 % 2 ^ 64
+  shifted =
+      ap (λ (x : ℕ). x % 2 ^ 128) regroup ∙ mod-pow-add (h * 2 * 2 ^ 64 + l * 2) 64 64
+      ∙ ap₂ (λ (x y : ℕ). x * 2 ^ 64 + y)
+      (ap (λ (x : ℕ). x % 2 ^ 64) (mul-add-div-right (lit< {m = 0} {n = 2 ^ 64} tt) (h * 2) (l * 2) ∙ ap (λ (x : ℕ). h * 2 + x) carried)
+      ∙ joined (l / 2 ^ 63) (shr-lt 1 63 hl))
+      (mul-add-mod-self-right (h * 2) (2 ^ 64) (l * 2))
+
+  pub out : (h * 2 ^ 64 + l) / 2 ^ 127 ≡ h / 2 ^ 63
+  out = sym (shr-shr (h * 2 ^ 64 + l) 64 63) ∙ ap (λ (x : ℕ). x / 2 ^ 63) (high h 64 hl)
+
+  pub top-bit : h / 2 ^ 63 < 2
+  top-bit = shr-lt 1 63 hh
+
+  reduction : times (h / 2 ^ 63 % 2) 0x87 ≡ h / 2 ^ 63 * 0x87
+  unfolding times
+  reduction = bit-cases (λ (x : ℕ). times (x % 2) 0x87 ≡ x * 0x87) refl refl (h / 2 ^ 63) top-bit
+
+  small : h / 2 ^ 63 * 0x87 < 2 ^ 64
+  small = omega arith
+
+  pub double-words : bitOr (h * 2 % 2 ^ 64) (l / 2 ^ 63) * 2 ^ 64 + bitXor (l * 2 % 2 ^ 64) (h / 2 ^ 63 * 0x87) ≡ double (h * 2 ^ 64 + l)
+  unfolding double
+  double-words =
+      ap₂ (λ (x y : ℕ). x * 2 ^ 64 + y) (upper ∙ sym (xor-zero-r (h % 2 ^ 63 * 2 + l / 2 ^ 63))) refl
+      ∙ sym (xor-block 64 (h % 2 ^ 63 * 2 + l / 2 ^ 63) 0 (l * 2 % 2 ^ 64) (h / 2 ^ 63 * 0x87) (mod-lt (l * 2) (lit< tt)) small)
+      ∙ ap₂ bitXor (sym shifted) (zero-add (h / 2 ^ 63 * 0x87) ∙ sym reduction ∙ ap (λ (x : ℕ). times (x % 2) 0x87) (sym out))
+
+pub times-set : (x b : ℕ) → (x ≡ 0 → ⊥) → times x b ≡ b
+unfolding times
+times-set zero b f = absurd (f refl)
+times-set (suc x) b f = refl
+
+-- one bit more: the k-th bit from below, of n + k in all
+horner-next : (b s w n k : ℕ)
+    → bitXor (double (horner b s n (w / 2 ^ suc k))) (times (w / 2 ^ k % 2) b) ≡ horner b s (suc n) (w / 2 ^ k)
+unfolding horner
+horner-next b s w n k = ap (λ (x : ℕ). bitXor (double (horner b s n x)) (times (w / 2 ^ k % 2) b)) (ap (λ (e : ℕ). w / 2 ^ e) (sym (add-one k)) ∙ sym (shr-shr w k 1))
+
+pub word-next : (b s w k : ℕ) → 0 < k → k ≤ 64
+    → bitXor (double (horner b s (64 - k) (w / 2 ^ k))) (times (w / 2 ^ (k - 1) % 2) b) ≡ horner b s (64 - (k - 1)) (w / 2 ^ (k - 1))
+word-next b s w k p q =
+    ap (λ (e : ℕ). bitXor (double (horner b s (64 - k) (w / 2 ^ e))) (times (w / 2 ^ (k - 1) % 2) b)) (omega arith)
+    ∙ horner-next b s w (64 - k) (k - 1)
+    ∙ ap (λ (n : ℕ). horner b s n (w / 2 ^ (k - 1))) (omega arith)
+
+pub word-all : (b s w k : ℕ) → k ≡ 0 → horner b s (64 - k) (w / 2 ^ k) ≡ horner b s 64 w
+word-all b s w k e = ap (λ (j : ℕ). horner b s (64 - j) (w / 2 ^ j)) e ∙ ap (horner b s 64) (div-one w)
+
+-- the two words one after the other
+pub two-words : (b h l : ℕ) → l < 2 ^ 64 → horner b (horner b 0 64 h) 64 l ≡ mul (h * 2 ^ 64 + l) b
+unfolding mul
+two-words b h l hl =
+    sym (horner-append b 0 64 64 (h * 2 ^ 64 + l)
+    ∙ ap (λ (x : ℕ). horner b (horner b 0 64 x) 64 (h * 2 ^ 64 + l)) (high h 64 hl)
+    ∙ horner-low b (horner b 0 64 h) h 64 l)

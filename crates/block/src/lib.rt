@@ -1,0 +1,203 @@
+// Blocks of 16 bytes as elements of GF(2^128) modulo X^128 + X^7 + X^2 + X + 1, and the byte slices that hold them.
+ghost use mathlib.Core.Path.{_≡_};
+ghost use Prim.Native.Nat.{_+_, _*_, _%_, _^_, _≤_, _<_};
+ghost use mathlib.Core.List.{_++_};
+ghost use lib.ListN.{length, take, drop};
+ghost use lib.Bits.{bitXor};
+ghost use Rattle.block.specs.Bytes.{fromBytes, toBytes, xorBytes};
+ghost use Rattle.block.specs.Bytes as B;
+ghost use Rattle.block.specs.Field.{times, horner, x⁻¹, 1⊕x⁻¹};
+ghost use Rattle.block.specs.Field as F;
+ghost use Rattle.block.specs.Value.{value};
+
+// The element hi * 2^64 + lo.
+pub struct Block {
+    pub hi: u64,
+    pub lo: u64,
+}
+
+pub fn xor(a: Block, b: Block) -> Block
+    ensures { λ r. ⌜ value r ≡ bitXor (value a) (value b) ⌝ }
+{
+    Block {
+        hi: a.hi ^ b.hi,
+        lo: a.lo ^ b.lo,
+    }
+}
+
+// The product by x: a shift left by one bit, and the reduction byte where the bit pushed out was 1.
+pub fn double(a: Block) -> Block
+    ensures { λ r. ⌜ value r ≡ F.double (value a) ⌝ }
+{
+    let out = a.hi >> 63;
+    let carry = a.lo >> 63;
+    let hi = (a.hi << 1) | carry;
+    let lo = (a.lo << 1) ^ (out * 0x87);
+    Block { hi, lo }
+}
+
+// The product by 1⊕x.
+pub fn triple(a: Block) -> Block
+    ensures { λ r. ⌜ value r ≡ F.mul 3 (value a) ⌝ }
+{
+    xor(double(a), a)
+}
+
+// Undoes `double`: a shift right by one bit, and the inverse of x where the bit pushed out was 1.
+pub fn undo_double(c: Block) -> Block
+    ensures { λ r. ⌜ value r ≡ F.mul x⁻¹ (value c) ⌝ }
+{
+    let out = c.lo % 2;
+    Block {
+        hi: (c.hi >> 1) ^ out * 0x8000_0000_0000_0000,
+        lo: ((c.hi << 63) | (c.lo >> 1)) ^ out * 0x43,
+    }
+}
+
+// The word whose ⊕ with its double is x: each bit is the ⊕ of x's bits up to it.
+fn prefix_xor(x: u64) -> u64
+    ensures { λ r. ⌜ bitXor r (r * 2 % 2 ^ 64) ≡ x ⌝ }
+{
+    let a = x ^ (x << 1);
+    let b = a ^ (a << 2);
+    let c = b ^ (b << 4);
+    let d = c ^ (c << 8);
+    let e = d ^ (d << 16);
+    e ^ (e << 32)
+}
+
+// Undoes `triple`. The low word's last carry turns every bit of the high word; 7d is what the bit pushed out then leaves.
+pub fn undo_triple(c: Block) -> Block
+    ensures { λ r. ⌜ value r ≡ F.mul 1⊕x⁻¹ (value c) ⌝ }
+{
+    let l = prefix_xor(c.lo);
+    let h = prefix_xor(c.hi) ^ (l >> 63) * 0xffff_ffff_ffff_ffff;
+    Block {
+        hi: h,
+        lo: l ^ (h >> 63) * 0x7d,
+    }
+}
+
+// b where the bit is 1, else zero.
+fn times_bit(bit: u64, b: Block) -> Block
+    ensures { λ r. ⌜ value r ≡ times bit (value b) ⌝ }
+{
+    if bit == 0 { Block { hi: 0, lo: 0 } } else { b }
+}
+
+// Horner's rule over the 64 bits of a word, the highest first, from s on.
+fn mul_word(b: Block, s: Block, w: u64) -> Block
+    ensures { λ r. ⌜ value r ≡ horner (value b) (value s) 64 w ⌝ }
+{
+    let mut acc = s;
+    let mut k: u64 = 64;
+    while 0 < k {
+        k = k - 1;
+        let bit = (w >> k) % 2;
+        acc = xor(double(acc), times_bit(bit, b));
+    }
+    acc
+}
+
+// The product: the high word's bits, then the low word's.
+pub fn mul(a: Block, b: Block) -> Block
+    ensures { λ r. ⌜ value r ≡ F.mul (value a) (value b) ⌝ }
+{
+    let zero = Block { hi: 0, lo: 0 };
+    mul_word(b, mul_word(b, zero, a.hi), a.lo)
+}
+
+fn widen(x: u8) -> u64
+    ensures { λ r. ⌜ (r ≡ x) × (r < 256) ⌝ }
+{
+    x as u64
+}
+
+// The eight bytes from `at` on as a number. Written out, it compiles to one load.
+fn load_word(b: &[u8], at: usize) -> u64
+    requires { ⌜ at + 8 ≤ length (now b) ⌝ }
+    ensures { λ r. ⌜ r ≡ fromBytes (take 8 (drop at (now (b .entry)))) ⌝ }
+{
+    let a = widen(b[at + 0]) * 256 + widen(b[at + 1]);
+    let c = a * 256 + widen(b[at + 2]);
+    let d = c * 256 + widen(b[at + 3]);
+    let e = d * 256 + widen(b[at + 4]);
+    let f = e * 256 + widen(b[at + 5]);
+    let g = f * 256 + widen(b[at + 6]);
+    g * 256 + widen(b[at + 7])
+}
+
+// The block in the sixteen bytes from `at` on.
+pub fn load(b: &[u8], at: usize) -> Block
+    requires { ⌜ at + 16 ≤ length (now b) ⌝ }
+    ensures { λ r. ⌜ value r ≡ fromBytes (take 16 (drop at (now (b .entry)))) ⌝ }
+{
+    let hi = load_word(b, at);
+    let lo = load_word(b, at + 8);
+    Block { hi, lo }
+}
+
+// Puts a word at `at`. Written out, it compiles to one store.
+fn store_word(out: &mut [u8], at: usize, w: u64)
+    requires { ⌜ at + 8 ≤ length (now out) ⌝ }
+    ensures { λ _. ⌜ now (out .exit) ≡ take at (now (out .entry)) ++ toBytes 8 w ++ drop (at + 8) (now (out .entry)) ⌝ }
+{
+    out[at + 0] = ((w >> 56) % 256) as u8;
+    out[at + 1] = ((w >> 48) % 256) as u8;
+    out[at + 2] = ((w >> 40) % 256) as u8;
+    out[at + 3] = ((w >> 32) % 256) as u8;
+    out[at + 4] = ((w >> 24) % 256) as u8;
+    out[at + 5] = ((w >> 16) % 256) as u8;
+    out[at + 6] = ((w >> 8) % 256) as u8;
+    out[at + 7] = ((w >> 0) % 256) as u8;
+}
+
+// Puts a block into the sixteen bytes from `at` on.
+pub fn store(out: &mut [u8], at: usize, v: Block)
+    requires { ⌜ at + 16 ≤ length (now out) ⌝ }
+    ensures { λ _. ⌜ now (out .exit) ≡ take at (now (out .entry)) ++ toBytes 16 (value v) ++ drop (at + 16) (now (out .entry)) ⌝ }
+{
+    store_word(out, at, v.hi);
+    store_word(out, at + 8, v.lo);
+}
+
+// Whether two slices hold the same bytes.
+pub fn same(a: &[u8], b: &[u8]) -> bool
+    ensures { λ r. ⌜ r ≡ B.same (now (a .entry)) (now (b .entry)) ⌝ }
+{
+    if a.len() != b.len() {
+        return false;
+    }
+    let mut i: usize = 0;
+    while i < a.len() {
+        if a[i] != b[i] {
+            return false;
+        }
+        i += 1;
+    }
+    true
+}
+
+// Copies a slice to one of its length.
+pub fn copy(from: &[u8], to: &mut [u8])
+    requires { ⌜ length (now to) ≡ length (now from) ⌝ }
+    ensures { λ _. ⌜ now (to .exit) ≡ now (from .entry) ⌝ }
+{
+    let mut i: usize = 0;
+    while i < from.len() {
+        to[i] = from[i];
+        i += 1;
+    }
+}
+
+// The ⊕ of two slices of one length, into a third of that length.
+pub fn xor_bytes(a: &[u8], b: &[u8], out: &mut [u8])
+    requires { ⌜ (length (now b) ≡ length (now a)) × (length (now out) ≡ length (now a)) ⌝ }
+    ensures { λ _. ⌜ now (out .exit) ≡ xorBytes (now (a .entry)) (now (b .entry)) ⌝ }
+{
+    let mut i: usize = 0;
+    while i < a.len() {
+        out[i] = a[i] ^ b[i];
+        i += 1;
+    }
+}
