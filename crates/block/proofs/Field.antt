@@ -1,16 +1,15 @@
 -- Laws of the field. Assumes nothing.
-use mathlib.Core.Path.{_≡_, refl, sym, ap, ap₂, _∙_, subst}
-use Prim.Native.Nat.{ℕ, zero, suc, _+_, _-_, _*_, _/_, _%_, _^_, _≤_, _<_, zero-le, suc-le-suc}
-use native.Mathlib.Nat.{zero-add, suc-add, div-one, mod-lt, mod-one, mod-eq-of-lt, div-eq-of-lt, zero-lt-suc, add-zero, le-of-suc-le, lt-of-lt-of-le}
+use mathlib.Core.Path.{_≡_, refl, sym, ap, ap₂, _∙_}
+use Prim.Native.Nat.{ℕ, zero, suc, _+_, _*_, _/_, _%_, _^_, _≤_, _<_}
+use native.Mathlib.Nat.{zero-add, suc-add, div-one, mod-lt, mod-one, mod-eq-of-lt, div-eq-of-lt, add-zero, le-of-suc-le, lt-of-lt-of-le}
 use native.Mathlib.Numerals.{add-one, one-add}
 use native.Mathlib.Omega.{arith}
-use lib.Arith.{bin-ind}
 use lib.Dec.{lit<, lit≤}
 use lib.Pow.{pow-pos, pow-mono, shl-lt, shr-shr, mod-pow-add}
 use lib.Bits.{bitXor, xor-comm, xor-zero-r, xor-self, xor-lt, xor-shr, xor-mod, xor-shifted, block-half, block-odd}
 use Rattle.block.specs.FieldLaws.{FieldLaws}
 use Rattle.block.proofs.Bits.{bit-cases, bit-lt, xor-half, xor-bit, xor-assoc, xor-cancel, xor-swap, xor-shl}
-use Rattle.block.specs.Field.{times, double, horner, mul, power, x⁻¹, 1⊕x⁻¹}
+use Rattle.block.specs.Field.{times, double, horner, mul, x⁻¹, 1⊕x⁻¹}
 
 -- ---- a bit times an element
 

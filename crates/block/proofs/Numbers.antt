@@ -1,7 +1,7 @@
 -- Laws of numbers as bytes, the first the most significant. Assumes nothing.
 use mathlib.Core.Path.{_≡_, refl, sym, ap, ap₂, _∙_, subst}
 use mathlib.Core.Logic.{_⊎_, inl, inr}
-use Prim.Native.Nat.{ℕ, zero, suc, _+_, _-_, _*_, _/_, _%_, _^_, _≤_, _<_, suc-le-suc, zero-le}
+use Prim.Native.Nat.{ℕ, zero, suc, _+_, _-_, _*_, _/_, _%_, _^_, _≤_, _<_}
 use native.Mathlib.Nat.{div-lt-iff-lt-mul, div-add-mod', mod-eq-of-lt, suc-add, div-one, not-suc-le-zero, le-of-suc-le-suc, eq-or-lt-of-le, div-div-eq-div-mul, mul-add-div-right, mul-add-mod-self-right, zero-add, add-zero, mul-one, add-assoc, mul-assoc, add-mul, pow-suc, mul-comm, le-trans, le-of-eq, pow-le-pow-right}
 use mathlib.Core.List.{List, [], _∷_, _++_, append-assoc, append-nil}
 use lib.ListN.{length, take, drop, getD, length-drop, length-append, List·getD-append}

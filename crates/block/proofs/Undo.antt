@@ -1,7 +1,7 @@
 -- Undoing the products by x and by 1 + x. Assumes nothing.
-use mathlib.Core.Path.{_≡_, refl, sym, ap, ap₂, _∙_, subst}
-use Prim.Native.Nat.{ℕ, zero, suc, _+_, _-_, _*_, _/_, _%_, _^_, _≤_, _<_}
-use native.Mathlib.Nat.{mod-lt, zero-add, add-zero, mul-one, mul-assoc, mul-mod-left, div-add-mod', mul-add-mod-self-right, add-mul, mul-right-comm, lt-of-lt-of-le}
+use mathlib.Core.Path.{_≡_, refl, sym, ap, ap₂, _∙_}
+use Prim.Native.Nat.{ℕ, _+_, _*_, _/_, _%_, _^_, _<_}
+use native.Mathlib.Nat.{mod-lt, zero-add, add-zero, mul-assoc, mul-mod-left, div-add-mod', mul-add-mod-self-right, add-mul, mul-right-comm, lt-of-lt-of-le}
 use native.Mathlib.Omega.{arith}
 use lib.Dec.{lit<, lit≤}
 use lib.Pow.{pow-add, shr-lt, shl-shr, mod-pow-add}
@@ -10,7 +10,7 @@ use lib.Bits.{bitXor, bitOr, xor-block, xor-comm, xor-zero-r, xor-self, xor-lt, 
 use Rattle.block.proofs.Bits.{bit-cases, bit-lt, xor-assoc, xor-swap, xor-shl, xor-cancel-r}
 use Rattle.block.specs.Field.{times, double, horner, mul, x⁻¹, 1⊕x⁻¹}
 use Rattle.block.proofs.Field.{mul-add, mul-two-l, mul-three-l, double-add, double-small, x⁻¹-inverse, 1⊕x⁻¹-inverse}
-use Rattle.block.proofs.Words.{shifted, twice-mod, out, top-bit}
+use Rattle.block.proofs.Words.{shifted, twice-mod, out}
 
 -- ---- a word and its shift by k
 

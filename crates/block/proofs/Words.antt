@@ -1,7 +1,7 @@
 -- Blocks as two words of 64 bits. Assumes nothing.
-use mathlib.Core.Path.{_≡_, refl, sym, ap, ap₂, _∙_, subst}
+use mathlib.Core.Path.{_≡_, refl, sym, ap, ap₂, _∙_}
 use Prim.Native.Nat.{ℕ, zero, suc, _+_, _-_, _*_, _/_, _%_, _^_, _≤_, _<_}
-use native.Mathlib.Nat.{div-one, sub-zero, suc-sub-suc, mod-lt, zero-add, add-mul, mul-right-comm, mul-add-div-right, mul-add-mod-self-right}
+use native.Mathlib.Nat.{div-one, mod-lt, zero-add, add-mul, mul-right-comm, mul-add-div-right, mul-add-mod-self-right}
 use native.Mathlib.Numerals.{add-one}
 use native.Mathlib.Omega.{arith}
 use lib.Dec.{lit<}

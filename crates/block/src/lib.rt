@@ -31,8 +31,9 @@ pub fn double(a: Block) -> Block
 {
     let out = a.hi >> 63;
     let carry = a.lo >> 63;
+    let reduction = out * 0x87;
     let hi = (a.hi << 1) | carry;
-    let lo = (a.lo << 1) ^ (out * 0x87);
+    let lo = (a.lo << 1) ^ reduction;
     Block { hi, lo }
 }
 

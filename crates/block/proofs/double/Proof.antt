@@ -5,8 +5,8 @@ use Rattle.block.proofs.Words.{double-words}
 use Rattle.block.proofs.double.Statement.{statement}
 use Rattle.block.proofs.double.Tie as tie
 
-mul-lo : tie.Need-mul-lo
-mul-lo c = search needs
+mul-reduction : tie.Need-mul-reduction
+mul-reduction c = search needs
 
 returns : tie.Need-returns
 unfolding value
@@ -15,4 +15,4 @@ returns c =
     double-words (a .hi) (a .lo) (omega arith) (omega arith)
 
 pub double-spec : {M : Type 1} → statement M
-double-spec = tie.close (tie.spec mul-lo returns)
+double-spec = tie.close (tie.spec mul-reduction returns)

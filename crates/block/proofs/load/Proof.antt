@@ -1,15 +1,11 @@
-use mathlib.Core.Path.{_≡_, refl, sym, ap, ap₂, _∙_}
+use mathlib.Core.Path.{sym, ap₂, _∙_}
 use Prim.Native.Nat.{ℕ, _+_, _*_, _^_}
 use borrow.Author.Needs.{needs}
 use native.Mathlib.Omega.{arith}
-use Rattle.block.specs.Bytes.{fromBytes}
 use Rattle.block.proofs.Numbers.{bytes-two}
 use Rattle.block.specs.Value.{value}
 use Rattle.block.proofs.load.Statement.{statement}
 use Rattle.block.proofs.load.Tie as tie
-use Rattle.block.proofs.load.Reads as reads
-use Rattle.block.proofs.load.Lts as lts
-use Rattle.block.proofs.load_word.Reads as load-word-reads
 
 load-word-requires : tie.Need-load-word-requires
 load-word-requires c κs = search needs

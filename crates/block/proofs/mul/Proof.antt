@@ -1,4 +1,4 @@
-use mathlib.Core.Path.{_≡_, refl, sym, ap, ap₂, _∙_}
+use mathlib.Core.Path.{ap, _∙_}
 use Prim.Native.Nat.{ℕ}
 use borrow.Author.Needs.{needs}
 use native.Mathlib.Omega.{arith}
@@ -7,9 +7,6 @@ use Rattle.block.specs.Value.{value}
 use Rattle.block.proofs.Words.{two-words}
 use Rattle.block.proofs.mul.Statement.{statement}
 use Rattle.block.proofs.mul.Tie as tie
-use Rattle.block.proofs.mul.Reads as reads
-use Rattle.block.proofs.mul.Lts as lts
-use Rattle.block.proofs.mul_word.Reads as mul-word-reads
 
 mul-word-requires : tie.Need-mul-word-requires
 mul-word-requires c κs = search needs

@@ -1,18 +1,13 @@
-use mathlib.Core.Path.{_≡_, refl, sym, ap, ap₂, _∙_}
+use mathlib.Core.Path.{_≡_, refl, ap, ap₂, _∙_}
 use Prim.Native.Nat.{_≤_, _-_, _/_, _^_}
 use borrow.Author.Needs.{needs}
 use native.Mathlib.Omega.{arith}
 use lib.Bits.{bitXor}
-use Rattle.block.specs.Field.{times, double, horner}
+use Rattle.block.specs.Field.{double, horner}
 use Rattle.block.specs.Value.{value}
 use Rattle.block.proofs.Words.{word-next, word-all}
 use Rattle.block.proofs.mul_word.Statement.{statement}
 use Rattle.block.proofs.mul_word.Tie as tie
-use Rattle.block.proofs.mul_word.Reads as reads
-use Rattle.block.proofs.mul_word.Lts as lts
-use Rattle.block.proofs.double.Reads as double-reads
-use Rattle.block.proofs.times_bit.Reads as times-bit-reads
-use Rattle.block.proofs.xor.Reads as xor-reads
 
 abbrev Inv-loop : tie.InvT-loop
 Inv-loop b w acc₀ k₀ acc k = (k ≤ 64) × (value acc ≡ horner (value b) (value acc₀) (64 - k) (w / 2 ^ k))

@@ -1,10 +1,7 @@
 use Rattle.block.proofs.Undo.{prefix-xor-is}
 use Rattle.block.proofs.prefix_xor.Statement.{statement}
 use Rattle.block.proofs.prefix_xor.Tie as tie
-use Rattle.block.proofs.prefix_xor.Reads as reads
-use Rattle.block.proofs.prefix_xor.Lts as lts
 
--- src/lib.rt:318:1
 returns : tie.Need-returns
 returns c = prefix-xor-is (c .args .x)
 

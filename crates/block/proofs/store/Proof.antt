@@ -1,5 +1,5 @@
-use mathlib.Core.Path.{_≡_, refl, sym, ap, ap₂, _∙_}
-use Prim.Native.Nat.{ℕ, _+_, _*_, _^_}
+use mathlib.Core.Path.{_≡_, sym, ap, ap₂, _∙_}
+use Prim.Native.Nat.{ℕ, _+_}
 use mathlib.Core.List.{List, _++_}
 use lib.ListN.{take, drop, length}
 use native.Mathlib.Nat.{add-assoc}
@@ -10,9 +10,6 @@ use Rattle.block.proofs.Numbers.{toBytes-two, store-two, length-toBytes
 use Rattle.block.specs.Value.{value}
 use Rattle.block.proofs.store.Statement.{statement}
 use Rattle.block.proofs.store.Tie as tie
-use Rattle.block.proofs.store.Reads as reads
-use Rattle.block.proofs.store.Lts as lts
-use Rattle.block.proofs.store_word.Reads as store-word-reads
 
 store-word-requires : tie.Need-store-word-requires
 store-word-requires c κs = search needs

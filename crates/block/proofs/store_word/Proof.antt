@@ -4,110 +4,82 @@ use Rattle.block.proofs.WordBytes.{stored-is}
 use borrow.Author.Needs.{needs}
 use Rattle.block.proofs.store_word.Statement.{statement}
 use Rattle.block.proofs.store_word.Tie as tie
-use Rattle.block.proofs.store_word.Reads as reads
-use Rattle.block.proofs.store_word.Lts as lts
 
--- src/lib.rt:79:19
 cast-out : tie.Need-cast-out
 cast-out c = search needs
 
--- src/lib.rt:79:9
 add-out : tie.Need-add-out
 add-out c = search needs
 
--- src/lib.rt:79:5
 slice-write-out : tie.Need-slice-write-out
 slice-write-out c = search needs
 
--- src/lib.rt:80:19
 cast-out-2 : tie.Need-cast-out-2
 cast-out-2 c = search needs
 
--- src/lib.rt:80:9
 add-out-2 : tie.Need-add-out-2
 add-out-2 c = search needs
 
--- src/lib.rt:80:5
 slice-write-out-2 : tie.Need-slice-write-out-2
 slice-write-out-2 c = simp length-set (omega arith)
 
--- src/lib.rt:81:19
 cast-out-3 : tie.Need-cast-out-3
 cast-out-3 c = search needs
 
--- src/lib.rt:81:9
 add-out-3 : tie.Need-add-out-3
 add-out-3 c = search needs
 
--- src/lib.rt:81:5
 slice-write-out-3 : tie.Need-slice-write-out-3
 slice-write-out-3 c = simp length-set (omega arith)
 
--- src/lib.rt:82:19
 cast-out-4 : tie.Need-cast-out-4
 cast-out-4 c = search needs
 
--- src/lib.rt:82:9
 add-out-4 : tie.Need-add-out-4
 add-out-4 c = search needs
 
--- src/lib.rt:82:5
 slice-write-out-4 : tie.Need-slice-write-out-4
 slice-write-out-4 c = simp length-set (omega arith)
 
--- src/lib.rt:83:19
 cast-out-5 : tie.Need-cast-out-5
 cast-out-5 c = search needs
 
--- src/lib.rt:83:9
 add-out-5 : tie.Need-add-out-5
 add-out-5 c = search needs
 
--- src/lib.rt:83:5
 slice-write-out-5 : tie.Need-slice-write-out-5
 slice-write-out-5 c = simp length-set (omega arith)
 
--- src/lib.rt:84:19
 cast-out-6 : tie.Need-cast-out-6
 cast-out-6 c = search needs
 
--- src/lib.rt:84:9
 add-out-6 : tie.Need-add-out-6
 add-out-6 c = search needs
 
--- src/lib.rt:84:5
 slice-write-out-6 : tie.Need-slice-write-out-6
 slice-write-out-6 c = simp length-set (omega arith)
 
--- src/lib.rt:85:19
 cast-out-7 : tie.Need-cast-out-7
 cast-out-7 c = search needs
 
--- src/lib.rt:85:9
 add-out-7 : tie.Need-add-out-7
 add-out-7 c = search needs
 
--- src/lib.rt:85:5
 slice-write-out-7 : tie.Need-slice-write-out-7
 slice-write-out-7 c = simp length-set (omega arith)
 
--- src/lib.rt:86:19
 cast-out-8 : tie.Need-cast-out-8
 cast-out-8 c = search needs
 
--- src/lib.rt:86:9
 add-out-8 : tie.Need-add-out-8
 add-out-8 c = search needs
 
--- src/lib.rt:86:5
 slice-write-out-8 : tie.Need-slice-write-out-8
 slice-write-out-8 c = simp length-set (omega arith)
 
--- src/lib.rt:75:1
 same-length : tie.Need-same-length
 same-length c = simp length-set
 
--- src/lib.rt:75:1
 returns : tie.Need-returns
 returns c = stored-is (c .args .out .now) (c .args .at) (c .args .w) (c .pre)
 

@@ -1,14 +1,10 @@
-use mathlib.Core.Path.{_≡_, refl, sym, ap, ap₂, _∙_}
+use mathlib.Core.Path.{sym}
 use borrow.Author.Needs.{needs}
-use native.Mathlib.Omega.{arith}
-use lib.Bits.{xor-block}
-use Rattle.block.specs.Field.{times, double, horner}
+use Rattle.block.specs.Field.{times}
 use Rattle.block.specs.Value.{value}
 use Rattle.block.proofs.Words.{times-set}
 use Rattle.block.proofs.times_bit.Statement.{statement}
 use Rattle.block.proofs.times_bit.Tie as tie
-use Rattle.block.proofs.times_bit.Reads as reads
-use Rattle.block.proofs.times_bit.Lts as lts
 
 returns : tie.Need-returns
 unfolding value times

@@ -1,14 +1,9 @@
-use mathlib.Core.Path.{_≡_, refl, sym, ap, ap₂, _∙_}
-use borrow.Author.Needs.{needs}
+use mathlib.Core.Path.{sym}
 use native.Mathlib.Omega.{arith}
 use lib.Bits.{xor-block}
-use Rattle.block.specs.Field.{times, double, horner}
 use Rattle.block.specs.Value.{value}
-use Rattle.block.proofs.Words.{double-words}
 use Rattle.block.proofs.xor.Statement.{statement}
 use Rattle.block.proofs.xor.Tie as tie
-use Rattle.block.proofs.xor.Reads as reads
-use Rattle.block.proofs.xor.Lts as lts
 
 returns : tie.Need-returns
 unfolding value
