@@ -125,6 +125,12 @@ xor-bytes-comm [] (y ∷ ys) = refl
 xor-bytes-comm (x ∷ xs) [] = refl
 xor-bytes-comm (x ∷ xs) (y ∷ ys) = ap₂ {C = List ℕ} (λ z zs. z ∷ zs) (xor-comm x y) (xor-bytes-comm xs ys)
 
+pub xor-append : (x y u v : List ℕ) → length x ≡ length u → xorBytes (x ++ y) (u ++ v) ≡ xorBytes x u ++ xorBytes y v
+xor-append [] y [] v e = refl
+xor-append [] y (b ∷ u) v e = absurd (omega arith)
+xor-append (a ∷ x) y [] v e = absurd (omega arith)
+xor-append (a ∷ x) y (b ∷ u) v e = ap (λ (l : List ℕ). bitXor a b ∷ l) (xor-append x y u v (ap pred e))
+
 -- x ⊕ (x ⊕ y) is y
 pub xor-bytes-cancel : (x y : List ℕ) → length x ≡ length y → xorBytes x (xorBytes x y) ≡ y
 xor-bytes-cancel [] [] e = refl

@@ -2,7 +2,7 @@
 use mathlib.Core.Path.{_≡_, refl, sym, ap, ap₂, _∙_, subst}
 use mathlib.Core.Logic.{_⊎_, inl, inr}
 use Prim.Native.Nat.{ℕ, zero, suc, _+_, _-_, _*_, _/_, _%_, _^_, _≤_, _<_}
-use native.Mathlib.Nat.{div-lt-iff-lt-mul, div-add-mod', mod-eq-of-lt, suc-add, div-one, not-suc-le-zero, le-of-suc-le-suc, eq-or-lt-of-le, div-div-eq-div-mul, mul-add-div-right, mul-add-mod-self-right, zero-add, add-zero, mul-one, add-assoc, mul-assoc, add-mul, pow-suc, mul-comm, le-trans, le-of-eq, pow-le-pow-right}
+use native.Mathlib.Nat.{div-lt-iff-lt-mul, div-add-mod', mod-eq-of-lt, suc-add, div-one, not-suc-le-zero, le-of-suc-le-suc, eq-or-lt-of-le, div-div-eq-div-mul, mul-add-div-right, mul-add-mod-self-right, zero-add, add-zero, mul-one, add-assoc, mul-assoc, add-mul, pow-suc, mul-comm, le-trans, le-of-eq, lt-of-lt-of-le, mod-lt, pow-le-pow-right}
 use mathlib.Core.List.{List, [], _∷_, _++_, append-assoc, append-nil}
 use lib.ListN.{length, take, drop, getD, length-drop, length-append, List·getD-append}
 use lib.Pow.{shr-shr, high}
@@ -11,7 +11,9 @@ use lib.Seq.{getD-at, take-at, drop-at, take-suc, getD-drop, take-add, drop-drop
 use lib.Dec.{lit<}
 use native.Mathlib.Numerals.{add-one}
 use native.Mathlib.Omega.{arith}
-use Rattle.block.specs.Bytes.{Bytes, number, fromBytes, toBytes}
+use lib.Bits.{bitXor, xor-shr, xor-mod}
+use Rattle.block.specs.Bytes.{Bytes, xorBytes, number, fromBytes, toBytes}
+use Rattle.block.proofs.Lists.{bytes-append, xor-append}
 
 pub number-append : (s : ℕ) (xs ys : List ℕ) → number s (xs ++ ys) ≡ number (number s xs) ys
 unfolding number
@@ -161,3 +163,20 @@ to-from (x ∷ xs) f =
     ∙ ap₂ (λ (l m : List ℕ). l ++ m)
     (ap (toBytes 1) (digits-div x small) ∙ ap (λ (y : ℕ). y ∷ []) (mod-eq-of-lt (f .0)))
     (toBytes-low x (length xs) (number 0 xs) ∙ to-from xs (f .1))
+
+-- a block is below 2^128
+pub block-lt : (xs : List ℕ) → Bytes xs → length xs ≤ 16 → fromBytes xs < 2 ^ 128
+block-lt xs f h = lt-of-lt-of-le (fromBytes-lt xs f) (pow-le-pow-right {n = 256} (lit< tt) {i = length xs} {j = 16} h)
+
+pub bytes-toBytes : (k n : ℕ) → Bytes (toBytes k n)
+unfolding toBytes
+bytes-toBytes zero n = tt
+bytes-toBytes (suc k) n = bytes-append (toBytes k (n / 256)) (n % 256 ∷ []) (bytes-toBytes k (n / 256)) (mod-lt n (lit< tt), tt)
+
+-- ⊕ of numbers is ⊕ of their bytes
+pub xor-toBytes : (k a b : ℕ) → xorBytes (toBytes k a) (toBytes k b) ≡ toBytes k (bitXor a b)
+unfolding toBytes
+xor-toBytes zero a b = refl
+xor-toBytes (suc k) a b =
+    xor-append (toBytes k (a / 256)) (a % 256 ∷ []) (toBytes k (b / 256)) (b % 256 ∷ []) (length-toBytes k (a / 256) ∙ sym (length-toBytes k (b / 256)))
+    ∙ ap₂ (λ (l : List ℕ) (x : ℕ). l ++ (x ∷ [])) (xor-toBytes k (a / 256) (b / 256) ∙ ap (toBytes k) (sym (xor-shr a b 8))) (sym (xor-mod a b 8))
