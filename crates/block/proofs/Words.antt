@@ -1,12 +1,14 @@
 -- Blocks as two words of 64 bits. Assumes nothing.
 use mathlib.Core.Path.{_≡_, refl, sym, ap, ap₂, _∙_}
+use mathlib.Core.Bool.{Bool, true, false}
 use Prim.Native.Nat.{ℕ, zero, suc, _+_, _-_, _*_, _/_, _%_, _^_, _≤_, _<_}
 use native.Mathlib.Nat.{div-one, mod-lt, zero-add, add-mul, mul-right-comm, mul-add-div-right, mul-add-mod-self-right}
 use native.Mathlib.Numerals.{add-one}
 use native.Mathlib.Omega.{arith}
-use lib.Dec.{lit<}
+use lib.Dec.{eqb, lit<}
 use lib.Pow.{high, mod-pow-add, shr-shr, shr-lt}
 use lib.Bits.{bitXor, bitOr, xor-block, xor-zero-r, or-shifted}
+use borrow.Author.Tests.{eqb-true, eqb-false, eq-eqb, ne-eqb}
 use Rattle.block.proofs.Bits.{bit-cases}
 use Rattle.block.specs.Field.{times, double, horner, mul}
 use Rattle.block.proofs.Field.{horner-append, horner-low}
@@ -84,3 +86,15 @@ two-words b h l hl =
     sym (horner-append b 0 64 64 (h * 2 ^ 64 + l)
     ∙ ap (λ (x : ℕ). horner b (horner b 0 64 x) 64 (h * 2 ^ 64 + l)) (high h 64 hl)
     ∙ horner-low b (horner b 0 64 h) h 64 l)
+
+-- ---- equal blocks have equal words
+
+pub words-equal : (h k l m : ℕ) → h ≡ k → eqb l m ≡ eqb (h * 2 ^ 64 + l) (k * 2 ^ 64 + m)
+words-equal h k l m e = go (eqb l m) refl
+  where
+    go : (t : Bool) → eqb l m ≡ t → eqb l m ≡ eqb (h * 2 ^ 64 + l) (k * 2 ^ 64 + m)
+    go true p = let q = eqb-true l m p in p ∙ sym (eq-eqb (h * 2 ^ 64 + l) (k * 2 ^ 64 + m) (omega arith))
+    go false p = p ∙ sym (ne-eqb (h * 2 ^ 64 + l) (k * 2 ^ 64 + m) (λ q. eqb-false l m p (omega arith)))
+
+pub words-differ : (h k l m : ℕ) → l < 2 ^ 64 → m < 2 ^ 64 → (h ≡ k → ⊥) → false ≡ eqb (h * 2 ^ 64 + l) (k * 2 ^ 64 + m)
+words-differ h k l m p q n = sym (ne-eqb (h * 2 ^ 64 + l) (k * 2 ^ 64 + m) (λ e. n (omega arith)))

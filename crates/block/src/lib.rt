@@ -4,6 +4,7 @@ ghost use Prim.Native.Nat.{_+_, _*_, _%_, _^_, _≤_, _<_};
 ghost use mathlib.Core.List.{_++_};
 ghost use lib.ListN.{length, take, drop};
 ghost use lib.Bits.{bitXor};
+ghost use lib.Dec.{eqb};
 ghost use Rattle.block.specs.Bytes.{fromBytes, toBytes, xorBytes};
 ghost use Rattle.block.specs.Bytes as B;
 ghost use Rattle.block.specs.Field.{times, horner, x⁻¹, 1⊕x⁻¹};
@@ -201,4 +202,11 @@ pub fn xor_bytes(a: &[u8], b: &[u8], out: &mut [u8])
         out[i] = a[i] ^ b[i];
         i += 1;
     }
+}
+
+// Whether two blocks are the same.
+pub fn equal(a: Block, b: Block) -> bool
+    ensures { λ r. ⌜ r ≡ eqb (value a) (value b) ⌝ }
+{
+    if a.hi == b.hi { a.lo == b.lo } else { false }
 }
