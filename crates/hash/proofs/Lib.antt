@@ -1,0 +1,3 @@
+pub mod BrwLaws
+mod PowersLaws
+mod SliceLaws

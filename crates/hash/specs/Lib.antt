@@ -1,0 +1,3 @@
+pub mod Brw
+pub mod HashFacts
+pub mod Powers
