@@ -152,7 +152,7 @@ bytes-zeros (suc n) = (lit< tt, bytes-zeros n)
 pub plain-zeros : (s : ℕ) → Plain s (replicate s 0)
 plain-zeros s = record { long = length-replicate s 0; bytes = bytes-zeros s }
 
-bytes-xor : (x y : List ℕ) → Bytes x → Bytes y → Bytes (xorBytes x y)
+pub bytes-xor : (x y : List ℕ) → Bytes x → Bytes y → Bytes (xorBytes x y)
 bytes-xor [] y h g = tt
 bytes-xor (x ∷ xs) [] h g = tt
 bytes-xor (x ∷ xs) (y ∷ ys) h g = (xor-lt 8 x y (h .0) (g .0), bytes-xor xs ys (h .1) (g .1))

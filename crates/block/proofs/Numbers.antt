@@ -173,10 +173,11 @@ unfolding toBytes
 bytes-toBytes zero n = tt
 bytes-toBytes (suc k) n = bytes-append (toBytes k (n / 256)) (n % 256 ∷ []) (bytes-toBytes k (n / 256)) (mod-lt n (lit< tt), tt)
 
--- ⊕ of numbers is ⊕ of their bytes
-pub xor-toBytes : (k a b : ℕ) → xorBytes (toBytes k a) (toBytes k b) ≡ toBytes k (bitXor a b)
+-- the bytes of a sum
+pub toBytes-xor : (k a b : ℕ) → toBytes k (bitXor a b) ≡ xorBytes (toBytes k a) (toBytes k b)
 unfolding toBytes
-xor-toBytes zero a b = refl
-xor-toBytes (suc k) a b =
-    xor-append (toBytes k (a / 256)) (a % 256 ∷ []) (toBytes k (b / 256)) (b % 256 ∷ []) (length-toBytes k (a / 256) ∙ sym (length-toBytes k (b / 256)))
-    ∙ ap₂ (λ (l : List ℕ) (x : ℕ). l ++ (x ∷ [])) (xor-toBytes k (a / 256) (b / 256) ∙ ap (toBytes k) (sym (xor-shr a b 8))) (sym (xor-mod a b 8))
+toBytes-xor zero a b = refl
+toBytes-xor (suc k) a b =
+    ap₂ (λ (x y : ℕ). toBytes k x ++ (y ∷ [])) (xor-shr a b 8) (xor-mod a b 8)
+    ∙ ap (λ (l : List ℕ). l ++ (bitXor (a % 256) (b % 256) ∷ [])) (toBytes-xor k (a / 256) (b / 256))
+    ∙ sym (xor-append (toBytes k (a / 256)) (a % 256 ∷ []) (toBytes k (b / 256)) (b % 256 ∷ []) (length-toBytes k (a / 256) ∙ sym (length-toBytes k (b / 256))))

@@ -1,0 +1,87 @@
+-- A round by its table. Assumes nothing.
+use mathlib.Core.Path.{_≡_, sym, ap, ap₂, _∙_}
+use mathlib.Core.List.{List, [], _∷_, _++_}
+use Prim.Native.Nat.{ℕ, suc, _+_, _-_, _*_, _<_}
+use native.Mathlib.Omega.{arith}
+use lib.ListN.{length, getD}
+use Rattle.block.specs.Bytes.{fromBytes, toBytes, xorBytes}
+use Rattle.block.proofs.Numbers.{to-from}
+use Rattle.aes.specs.declared.Columns.{Columns}
+use Rattle.aes.specs.Aes.{_⊕_, sBox, sBoxTable, subBytes, shiftRows, mixColumn, mixColumns, addRoundKey, rounds, rotate}
+use Rattle.aes.specs.Columns.{stateOf, sub, lastColumn, roundColumn, EachColumn, mixRows, roundTable}
+use Rattle.aes.proofs.Bytes.{length-tabulate, tabulate-at, double-lt, triple-lt, sBox-lt}
+use Rattle.block.proofs.Numbers.{toBytes-xor}
+
+-- ---- what stands in the table
+
+table-at : (x : ℕ) → x < 256 → getD roundTable x 0 ≡ fromBytes (mixRows (sBox x))
+unfolding roundTable
+table-at x h = tabulate-at 256 (λ y. fromBytes (mixRows (sBox y))) x h
+
+pub entry-rows : (t : List ℕ) (x : ℕ) → t ≡ roundTable → x < 256 → toBytes 4 (getD t x 0) ≡ mixRows (sBox x)
+entry-rows t x q h =
+    let s = sBox-lt x in
+    ap (λ (l : List ℕ). toBytes 4 (getD l x 0)) q ∙ ap (toBytes 4) (table-at x h)
+    ∙ to-from (mixRows (sBox x)) (double-lt s, (s, (s, (triple-lt s, tt))))
+
+-- from the S-box
+pub entry-of : (s : List ℕ) (x : ℕ) → s ≡ sBoxTable → x < 256 → fromBytes (mixRows (getD s x 0)) ≡ getD roundTable x 0
+unfolding sBoxTable
+entry-of s x q h = ap (λ (y : ℕ). fromBytes (mixRows y)) (ap (λ (l : List ℕ). getD l x 0) q ∙ tabulate-at 256 sBox x h) ∙ sym (table-at x h)
+
+pub length-table : length roundTable ≡ 256
+unfolding roundTable
+length-table = length-tabulate 256 (λ y. fromBytes (mixRows (sBox y)))
+
+-- ---- a column
+
+pub last-column : (a b c d p q r s : ℕ) → p ≡ sub a 0 → q ≡ sub b 1 → r ≡ sub c 2 → s ≡ sub d 3
+    → toBytes 4 (fromBytes (p ∷ q ∷ r ∷ s ∷ [])) ≡ lastColumn a b c d
+unfolding lastColumn
+last-column a b c d p q r s ep eq er es =
+    (λ i. toBytes 4 (fromBytes (ep i ∷ eq i ∷ er i ∷ es i ∷ [])))
+    ∙ to-from (lastColumn a b c d) (sBox-lt _, (sBox-lt _, (sBox-lt _, (sBox-lt _, tt))))
+
+-- four entries, each in its row, add up to the mixed column
+pub four-entries : (a b c d x y z u : ℕ)
+    → toBytes 4 x ≡ mixRows a → toBytes 4 y ≡ rotate 3 (mixRows b) → toBytes 4 z ≡ rotate 2 (mixRows c) → toBytes 4 u ≡ rotate 1 (mixRows d)
+    → toBytes 4 (x ⊕ y ⊕ z ⊕ u) ≡ mixColumn a b c d
+four-entries a b c d x y z u ex ey ez eu =
+    toBytes-xor 4 (x ⊕ y ⊕ z) u
+    ∙ ap₂ xorBytes (toBytes-xor 4 (x ⊕ y) z ∙ ap₂ xorBytes (toBytes-xor 4 x y ∙ ap₂ xorBytes ex ey) ez) eu
+
+-- ---- the state, column by column
+
+module _ (s r : Columns) where
+  each-column : (f : ℕ → ℕ → ℕ → ℕ → List ℕ) → EachColumn f s r
+      → stateOf r
+      ≡ f (s .c0) (s .c1) (s .c2) (s .c3) ++ f (s .c1) (s .c2) (s .c3) (s .c0) ++ f (s .c2) (s .c3) (s .c0) (s .c1) ++ f (s .c3) (s .c0) (s .c1) (s .c2)
+  unfolding stateOf
+  each-column f e = λ i. e .0 i ++ e .1 i ++ e .2 i ++ e .3 i
+
+  pub last-state : EachColumn lastColumn s r → stateOf r ≡ shiftRows (subBytes (stateOf s))
+  unfolding stateOf lastColumn shiftRows subBytes toBytes
+  last-state e = each-column lastColumn e
+
+  pub round-state : EachColumn roundColumn s r → stateOf r ≡ mixColumns (shiftRows (subBytes (stateOf s)))
+  unfolding stateOf roundColumn mixColumns shiftRows subBytes toBytes
+  round-state e = each-column roundColumn e
+
+pub key-state : (w : List ℕ) (n : ℕ) (s : Columns)
+    → stateOf (record { c0 = s .c0 ⊕ getD w (4 * n + 0) 0; c1 = s .c1 ⊕ getD w (4 * n + 1) 0; c2 = s .c2 ⊕ getD w (4 * n + 2) 0; c3 = s .c3 ⊕ getD w (4 * n + 3) 0 })
+    ≡ addRoundKey w n (stateOf s)
+unfolding stateOf addRoundKey toBytes
+key-state w n s = λ i.
+    toBytes-xor 4 (s .c0) (getD w (4 * n + 0) 0) i
+    ++ toBytes-xor 4 (s .c1) (getD w (4 * n + 1) 0) i
+    ++ toBytes-xor 4 (s .c2) (getD w (4 * n + 2) 0) i
+    ++ toBytes-xor 4 (s .c3) (getD w (4 * n + 3) 0) i
+
+-- ---- the rounds
+
+pub rounds-next : (w s : List ℕ) (n : ℕ) → 0 < n → addRoundKey w n (mixColumns (shiftRows (subBytes (rounds w s (n - 1))))) ≡ rounds w s (n + 1 - 1)
+unfolding rounds
+rounds-next w s n h =
+    let e : n ≡ suc (n - 1) = omega arith in
+    let f : suc (n - 1) ≡ n + 1 - 1 = omega arith in
+    ap (λ (m : ℕ). addRoundKey w m (mixColumns (shiftRows (subBytes (rounds w s (n - 1)))))) e ∙ ap (rounds w s) f

@@ -1,0 +1,15 @@
+use mathlib.Core.Path.{refl}
+use Rattle.aes.specs.Aes.{xtime}
+use borrow.Author.Needs.{needs}
+use Rattle.aes.proofs.xtime.Statement.{statement}
+use Rattle.aes.proofs.xtime.Tie as tie
+
+mul-result : tie.Need-mul-result
+mul-result c = search needs
+
+returns : tie.Need-returns
+unfolding xtime
+returns c = refl
+
+pub xtime-spec : {M : Type 1} → statement M
+xtime-spec = tie.close (tie.spec mul-result returns)
