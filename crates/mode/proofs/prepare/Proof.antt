@@ -1,0 +1,69 @@
+use mathlib.Core.Path.{refl}
+use Rattle.block.specs.Value.{value}
+use Rattle.mode.proofs.Laws.{round-keys-are, hash-key-is}
+use borrow.Author.Needs.{needs}
+use Rattle.mode.proofs.prepare.Statement.{statement}
+use Rattle.mode.proofs.prepare.Tie as tie
+
+sub-expand : tie.Need-sub-expand
+sub-expand c = search needs
+
+part-expand-start : tie.Need-part-expand-start
+part-expand-start c = search needs
+
+part-expand-end : tie.Need-part-expand-end
+part-expand-end c = search needs
+
+slice-aggregate-expand : tie.Need-slice-aggregate-expand
+slice-aggregate-expand c = search needs
+
+expand-requires : tie.Need-expand-requires
+expand-requires c κs = search needs
+
+load-requires : tie.Need-load-requires
+load-requires c κs = search needs
+
+powers-requires : tie.Need-powers-requires
+powers-requires c κs = search needs
+
+slice-aggregate-encrypt : tie.Need-slice-aggregate-encrypt
+slice-aggregate-encrypt c = search needs
+
+encrypt-requires : tie.Need-encrypt-requires
+encrypt-requires c κs = search needs
+
+slice-aggregate-encrypt-2 : tie.Need-slice-aggregate-encrypt-2
+slice-aggregate-encrypt-2 c = search needs
+
+encrypt-requires-2 : tie.Need-encrypt-requires-2
+encrypt-requires-2 c κs = search needs
+
+returns : tie.Need-returns
+unfolding value
+returns c =
+    let k = c .before .before .before .before .before .before .before .before .before .before .before .args .key .now in
+    record {
+      round-keys = round-keys-are k (c .before .before .before .before .before .before .before .before .before .before .before .pre .1) _ refl (c .before .before .before .before .before .before .before .expand .ensures);
+      rounds = search needs;
+      hash-key = hash-key-is k (c .before .before .before .before .before .before .before .before .before .before .before .pre .1) (c .before .before .before .before .powers .ensures .0) (c .before .before .before .before .before .load .ensures);
+      powers = c .before .before .before .before .powers .ensures .1;
+      alpha = c .before .before .encrypt .ensures;
+      beta = c .encrypt2 .ensures;
+    }
+
+pub prepare-spec : {M : Type 1} → statement M
+prepare-spec =
+    tie.close
+    (tie.spec
+    sub-expand
+    part-expand-start
+    part-expand-end
+    slice-aggregate-expand
+    expand-requires
+    load-requires
+    powers-requires
+    slice-aggregate-encrypt
+    encrypt-requires
+    slice-aggregate-encrypt-2
+    encrypt-requires-2
+    returns)

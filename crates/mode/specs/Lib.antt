@@ -1,0 +1,4 @@
+pub mod Sealing
+pub mod Scheme
+pub mod Transforms
+pub mod Prepared

@@ -1,0 +1,9 @@
+pub mod JudgeExact
+pub mod OpenExact
+pub mod Cases
+pub mod Checks
+pub mod Sides
+pub mod Judging
+pub mod Prepared
+pub mod Public
+pub mod Opened

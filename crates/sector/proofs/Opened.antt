@@ -1,0 +1,122 @@
+-- The answers of open and rebuild from what the code has worked out. Assumes nothing.
+use mathlib.Core.Path.{_≡_, refl, sym, ap, ap₂, _∙_, subst}
+use mathlib.Core.Bool.{Bool, true, false}
+use mathlib.Core.List.{List, _++_}
+use mathlib.Core.Option.{Option, none, some}
+use Prim.Native.Nat.{ℕ, _%_}
+use lib.ListN.{length, take, drop}
+use Rattle.block.specs.Bytes.{Bytes, Plain, fromBytes, blocksOf, same}
+use Rattle.block.proofs.Lists.{same-eq, ne-same}
+use Rattle.block.proofs.Numbers.{from-to}
+use Rattle.aes.specs.Aes.{cipherNumber}
+use Rattle.aes.proofs.Bounds.{cipher-lt}
+use Rattle.hash.specs.Powers.{keyOf}
+use Rattle.mode.specs.declared.Direction.{Direction}
+use Rattle.mode.specs.Sealing.{blockwise, tagBlock, pad, localBlock, remoteBlock, sides, sealedBy, tweak, sealed}
+use Rattle.mode.specs.Scheme.{on, Scheme, Lawful, dcm, scheme}
+use Rattle.mode.specs.Transforms.{transformed}
+use Rattle.mode.proofs.Laws.{tag-lt, dcm-lawful}
+use Rattle.sector.specs.Answers.{firstOf}
+use Rattle.sector.specs.Calls.{key, keyRules, sizeRules, sideRules, sideOf, openOutcome, openCall, rebuildCall}
+use Rattle.sector.specs.Judging.{schemeOf, sealingOf}
+use Rattle.sector.specs.Verdict.{Side, localSide, remoteSide, placeOf, otherSide, openSide, opened, Opens}
+use Rattle.sector.proofs.OpenExact.{open-plain, opens-one, opened-some, opened-none}
+use Rattle.sector.proofs.Public.{settle-some, settle-none}
+use Rattle.sector.proofs.Sides.{tag-loaded}
+
+-- a side x and a tag g as lent
+pub record Side-known (x g : List ℕ) : Type 0 where
+  pub bytes-x : Bytes x
+  pub bytes-g : Bytes g
+  pub blocks : length x % 16 ≡ 0
+  pub tag-size : length g ≡ 16
+
+module _ (w p : List ℕ) (T : ℕ) (d : Side) (x g : List ℕ) (known : Side-known x g) where
+  abbrev S : Scheme
+  S = schemeOf w p
+
+  lawful : Lawful (length x) S
+  lawful = dcm-lawful (cipherNumber w) (cipher-lt w) (keyOf p) (length x) (known .blocks)
+
+  plain-x : Plain (length x) x
+  plain-x = record { long = refl; bytes = known .bytes-x }
+
+  plain-g : Plain 16 g
+  plain-g = record { long = known .tag-size; bytes = known .bytes-g }
+
+  -- what is found has the tag, so it fits the side too
+  fitting : (o : List ℕ) → o ≡ openSide S d g x → g ≡ S .sealed T o .tag → Opens S T d g x o
+  fitting o e f = record { fits-tag = f; fits-side = side d e }
+    where
+      side : (d : Side) → o ≡ openSide S d g x → x ≡ on (S .sealed T o) (placeOf d)
+      side localSide e =
+          sym (ap (λ (Q : List ℕ). S .sealed T Q .local) e ∙ lawful .onto-left T g x plain-g plain-x (ap (λ (Q : List ℕ). S .sealed T Q .tag) (sym e) ∙ sym f))
+      side remoteSide e =
+          sym (ap (λ (Q : List ℕ). S .sealed T Q .remote) e ∙ lawful .onto-right T g x plain-g plain-x (ap (λ (Q : List ℕ). S .sealed T Q .tag) (sym e) ∙ sym f))
+
+  found-plain : Plain (length x) (openSide S d g x)
+  found-plain = open-plain (length x) S lawful T d g x plain-g plain-x
+
+  module _ (o : List ℕ) (b : Bool) (e : (o ≡ openSide S d g x) × (b ≡ same g (S .sealed T o .tag))) where
+    pub found : b ≡ true → opened S T d g x ≡ some o
+    found y =
+        opened-some (length x) S lawful T d g x o (subst (λ (Q : List ℕ). Plain (length x) Q) (sym (e .0)) found-plain)
+        (fitting o (e .0) (same-eq g (S .sealed T o .tag) (sym (e .1) ∙ y)))
+
+    pub missing : b ≡ false → opened S T d g x ≡ none
+    missing n =
+        opened-none (length x) S lawful T d g x found-plain
+        (λ P h f.
+        let q : o ≡ P = e .0 ∙ opens-one (length x) S lawful T d g x P h f in
+        ne-same g (S .sealed T o .tag) (sym (e .1) ∙ n) (f .fits-tag ∙ ap (λ (Q : List ℕ). S .sealed T Q .tag) (sym q)))
+
+    -- the other side as the plaintext found seals, from the tag that was lent
+    pub rebuilt : b ≡ true → (k : ℕ) {how : Direction} {y : List ℕ} → k ≡ fromBytes (take 16 (drop 0 g)) → how ≡ sealingOf (otherSide d)
+        → y ≡ blockwise (λ j v. transformed how (pad (cipherNumber w) k j) v) 1 (blocksOf o) → y ≡ on (S .sealed T o) (placeOf (otherSide d))
+    unfolding dcm sealedBy sides localBlock remoteBlock
+    rebuilt t k {how} {y} ek eh ey =
+        ey ∙ ap₂ (λ (h : Direction) (n : ℕ). blockwise (λ j v. transformed h (pad (cipherNumber w) n j) v) 1 (blocksOf o)) eh tag-is ∙ side d
+      where
+        tag-is : k ≡ tagBlock (cipherNumber w) (keyOf p) T o
+        tag-is =
+            ek ∙ tag-loaded g (known .tag-size) ∙ ap fromBytes (same-eq g (S .sealed T o .tag) (sym (e .1) ∙ t))
+            ∙ from-to 16 (tagBlock (cipherNumber w) (keyOf p) T o) (tag-lt (cipherNumber w) (cipher-lt w) (keyOf p) T o)
+
+        side : (d : Side) → blockwise (λ j v. transformed (sealingOf (otherSide d)) (pad (cipherNumber w) (tagBlock (cipherNumber w) (keyOf p) T o) j) v) 1 (blocksOf o)
+            ≡ on (S .sealed T o) (placeOf (otherSide d))
+        side localSide = refl
+        side remoteSide = refl
+
+-- ---- the calls
+
+pub opened-by : (f : List ℕ → List ℕ) (out : List ℕ) {r : Option (List ℕ)} {P o : List ℕ} → r ≡ some P → o ≡ f P → openOutcome f r out ≡ (0, o)
+opened-by f out e eo = ap (λ r. openOutcome f r out) e ∙ ap (λ (Q : List ℕ). (0, Q)) (sym eo)
+
+pub opened-by-none : (f : List ℕ → List ℕ) (out : List ℕ) {r : Option (List ℕ)} → r ≡ none → openOutcome f r out ≡ (5, out)
+opened-by-none f out e = ap (λ r. openOutcome f r out) e
+
+module _ (k : List ℕ) (address d : ℕ) (x g out : List ℕ) where
+  abbrev open-rules : Option ℕ
+  open-rules = firstOf (keyRules (key k) ++ (sizeRules (length x) (length out) (length out) (length g) ++ sideRules d))
+
+  abbrev result : Option (List ℕ)
+  result = opened (scheme (key k)) (tweak address) (sideOf d) g x
+
+  pub open-refuses : {n : ℕ} → open-rules ≡ some n → openCall (key k) address d x g out ≡ (n, out)
+  unfolding openCall
+  open-refuses e = settle-some (openOutcome (λ P. P) result out) out e
+
+  pub open-passes : open-rules ≡ none → openCall (key k) address d x g out ≡ openOutcome (λ P. P) result out
+  unfolding openCall
+  open-passes e = settle-none (openOutcome (λ P. P) result out) out e
+
+  abbrev opposite : List ℕ → List ℕ
+  opposite P = on (sealed (key k) address P) (placeOf (otherSide (sideOf d)))
+
+  pub rebuild-refuses : {n : ℕ} → open-rules ≡ some n → rebuildCall (key k) address d x g out ≡ (n, out)
+  unfolding rebuildCall
+  rebuild-refuses e = settle-some (openOutcome opposite result out) out e
+
+  pub rebuild-passes : open-rules ≡ none → rebuildCall (key k) address d x g out ≡ openOutcome opposite result out
+  unfolding rebuildCall
+  rebuild-passes e = settle-none (openOutcome opposite result out) out e

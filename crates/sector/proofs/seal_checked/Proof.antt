@@ -1,0 +1,50 @@
+use mathlib.Core.Path.{_∙_}
+use Rattle.sector.proofs.Prepared.{ready-of, scheme-sealed}
+use borrow.Author.Needs.{needs}
+use Rattle.sector.proofs.seal_checked.Statement.{statement}
+use Rattle.sector.proofs.seal_checked.Tie as tie
+
+table-requires : tie.Need-table-requires
+table-requires c κs = search needs
+
+prepare-requires : tie.Need-prepare-requires
+prepare-requires c κs = search needs
+
+context-requires : tie.Need-context-requires
+context-requires c κs = search needs
+
+slice-aggregate-seal-in : tie.Need-slice-aggregate-seal-in
+slice-aggregate-seal-in c = search needs
+
+seal-in-requires : tie.Need-seal-in-requires
+seal-in-requires c κs =
+    let s = c .before .before .before .before .before .before .before .before .before .before .before .before .before .before .before .before .before in
+    (ready-of (s .args .key .now) _ (c .before .before .before .before .before .before .before .before .before .prepare .ensures) _ (s .args .address) (c .before .before .before .before .before .before .context .ensures) (c .before .before .before .before .before .before .before .before .before .before .before .table .ensures), s .pre .1)
+
+same-length : tie.Need-same-length
+same-length c = search needs
+
+same-length-2 : tie.Need-same-length-2
+same-length-2 c = search needs
+
+same-length-3 : tie.Need-same-length-3
+same-length-3 c = search needs
+
+returns : tie.Need-returns
+returns c =
+    let a = c .before .before .before .before .before .before .before .before .before .before .before .before .before .before .before .before .before .before .before .before .before .before .before .before .args in
+    c .before .before .before .before .before .before .seal-in .ensures ∙ scheme-sealed (a .key .now) _ (c .before .before .before .before .before .before .before .before .before .before .before .before .before .before .before .before .prepare .ensures) _ (a .address) (c .before .before .before .before .before .before .before .before .before .before .before .before .before .context .ensures) (a .p .now)
+
+pub seal-checked-spec : {M : Type 1} → statement M
+seal-checked-spec =
+    tie.close
+    (tie.spec
+    table-requires
+    prepare-requires
+    context-requires
+    slice-aggregate-seal-in
+    seal-in-requires
+    same-length
+    same-length-2
+    same-length-3
+    returns)

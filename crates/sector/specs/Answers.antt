@@ -1,0 +1,72 @@
+-- Answers and refusals: their numbers in document 01, and the enums of the code. Assumes nothing: these are definitions.
+use mathlib.Core.Bool.{Bool, cond}
+use mathlib.Core.List.{List, [], _∷_}
+use mathlib.Core.Option.{Option, none, some}
+use Prim.Native.Nat.{ℕ}
+use Rattle.mode.specs.Scheme.{local, tag, remote}
+use Rattle.mode.specs.Scheme as M
+use Rattle.sector.specs.declared.Place.{Place}
+use Rattle.sector.specs.declared.Place.the-variants.{Local, Tag, Remote}
+use Rattle.sector.specs.declared.Refusal.{Refusal}
+use Rattle.sector.specs.declared.Refusal.the-variants.{KeyLength, SectorSize, OtherLength, UnknownSide, NoneFits, Lost, Clashing}
+use Rattle.sector.specs.declared.Judged.{Judged}
+use Rattle.sector.specs.declared.Judged.the-variants as J
+use Rattle.sector.specs.declared.Done.{Done}
+use Rattle.sector.specs.declared.Done.the-variants as D
+
+-- ---- doubt at place 1 (local), 2 (tag) and 3 (remote)
+
+abbrev pub doubtNumber : M.Place → ℕ
+doubtNumber local = 0x81
+doubtNumber tag = 0x82
+doubtNumber remote = 0x83
+
+-- ---- refusals in order
+
+-- a refusal: its number and its condition
+pub record Rule : Type 0 where
+  pub number : ℕ
+  pub condition : Bool
+
+abbrev pub rule : ℕ → Bool → Rule
+rule k b = record { number = k; condition = b }
+
+-- the number of the first refusal whose condition holds
+abbrev pub firstOf : List Rule → Option ℕ
+firstOf [] = none
+firstOf (r ∷ rs) = cond (r .condition) (some (r .number)) (firstOf rs)
+
+-- a call's number and lent bytes: a refusal leaves the bytes as they were
+abbrev pub settle : {A : Type 0} → Option ℕ → ℕ × A → A → ℕ × A
+settle none after before = after
+settle (some n) after before = (n, before)
+
+-- ---- the enums of the code
+
+abbrev pub refusalNumber : Refusal → ℕ
+refusalNumber KeyLength = 1
+refusalNumber SectorSize = 2
+refusalNumber OtherLength = 3
+refusalNumber UnknownSide = 4
+refusalNumber NoneFits = 5
+refusalNumber Lost = 6
+refusalNumber Clashing = 7
+
+abbrev pub placeNumber : Place → ℕ
+placeNumber Local = 0x81
+placeNumber Tag = 0x82
+placeNumber Remote = 0x83
+
+abbrev pub judgedNumber : Judged → ℕ
+judgedNumber J.Whole = 0
+judgedNumber (J.Doubtful p) = placeNumber p
+judgedNumber (J.Refused r) = refusalNumber r
+
+abbrev pub doneNumber : Done → ℕ
+doneNumber D.Done = 0
+doneNumber (D.Refused r) = refusalNumber r
+
+-- the refusal of a check, if it refuses
+abbrev pub doneOption : Done → Option ℕ
+doneOption D.Done = none
+doneOption (D.Refused r) = some (refusalNumber r)

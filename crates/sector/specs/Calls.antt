@@ -1,0 +1,81 @@
+-- Document 01's calls on a sector: for every input, the number of the answer and every lent byte afterwards. Assumes nothing: these are
+-- definitions.
+use mathlib.Core.Bool.{not, _&&_, _||_}
+use mathlib.Core.List.{List, [], _∷_, _++_}
+use mathlib.Core.Option.{Option, none, some}
+use Prim.Native.Nat.{ℕ, zero, suc}
+use lib.Dec.{eqb}
+use lib.ListN.{length}
+use Rattle.block.specs.Bytes.{xorBytes}
+use Rattle.mode.specs.Sealing.{Key, Triple, tweak, sealed}
+use Rattle.mode.specs.Scheme.{on, isKey, isSize, scheme}
+use Rattle.sector.specs.Verdict.{Verdict, whole, doubtful, lost, clashing, judge, Side, localSide, remoteSide, placeOf, otherSide, opened}
+use Rattle.sector.specs.Answers.{Rule, rule, firstOf, settle, doubtNumber}
+
+abbrev pub key : List ℕ → Key
+key b = record { bytes = b }
+
+abbrev pub triple : List ℕ → List ℕ → List ℕ → Triple
+triple l g r = record { local = l; tag = g; remote = r }
+
+-- ---- refusals 1, 2 and 3
+
+abbrev pub keyRules : Key → List Rule
+keyRules k = rule 1 (not (isKey k)) ∷ []
+
+-- the size s, two lengths that must equal it, and a tag's length
+abbrev pub sizeRules : ℕ → ℕ → ℕ → ℕ → List Rule
+sizeRules s x y g = rule 2 (not (isSize s)) ∷ rule 3 (not (eqb x s && (eqb y s && eqb g 16))) ∷ []
+
+-- ---- seal, with the three outputs before
+
+unfoldable pub sealCall : Key → ℕ → List ℕ → Triple → ℕ × Triple
+sealCall k address P out =
+    settle
+    (firstOf (keyRules k ++ sizeRules (length P) (length (out .local)) (length (out .remote)) (length (out .tag))))
+    (0, sealed k address P) out
+
+-- ---- judge, with the output before
+
+abbrev pub verdictOutcome : Verdict → List ℕ → ℕ × List ℕ
+verdictOutcome (whole P) out = (0, P)
+verdictOutcome (doubtful p P) out = (doubtNumber p, P)
+verdictOutcome lost out = (6, out)
+verdictOutcome clashing out = (7, out)
+
+unfoldable pub judgeCall : Key → ℕ → Triple → List ℕ → ℕ × List ℕ
+judgeCall k address t out =
+    settle
+    (firstOf (keyRules k ++ sizeRules (length (t .local)) (length (t .remote)) (length out) (length (t .tag))))
+    (verdictOutcome (judge (scheme k) (tweak address) t) out) out
+
+-- ---- open and rebuild, of the side with the number d: 0 is local, 1 remote
+
+abbrev pub sideRules : ℕ → List Rule
+sideRules d = rule 4 (not (eqb d 0 || eqb d 1)) ∷ []
+
+abbrev pub sideOf : ℕ → Side
+sideOf zero = localSide
+sideOf (suc d) = remoteSide
+
+-- f says what is written of the plaintext found
+abbrev pub openOutcome : (List ℕ → List ℕ) → Option (List ℕ) → List ℕ → ℕ × List ℕ
+openOutcome f none out = (5, out)
+openOutcome f (some P) out = (0, f P)
+
+abbrev pub openWith : (List ℕ → List ℕ) → Key → ℕ → ℕ → List ℕ → List ℕ → List ℕ → ℕ × List ℕ
+openWith f k address d x g out =
+    settle
+    (firstOf (keyRules k ++ (sizeRules (length x) (length out) (length out) (length g) ++ sideRules d)))
+    (openOutcome f (opened (scheme k) (tweak address) (sideOf d) g x) out) out
+
+unfoldable pub openCall : Key → ℕ → ℕ → List ℕ → List ℕ → List ℕ → ℕ × List ℕ
+openCall = openWith (λ P. P)
+
+unfoldable pub rebuildCall : Key → ℕ → ℕ → List ℕ → List ℕ → List ℕ → ℕ × List ℕ
+rebuildCall k address d = openWith (λ P. on (sealed k address P) (placeOf (otherSide (sideOf d)))) k address d
+
+-- ---- combine
+
+unfoldable pub combineCall : List ℕ → List ℕ → List ℕ → ℕ × List ℕ
+combineCall x y out = settle (firstOf (sizeRules (length x) (length y) (length out) 16)) (0, xorBytes x y) out

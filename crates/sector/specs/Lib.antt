@@ -1,0 +1,4 @@
+pub mod Verdict
+pub mod Answers
+pub mod Calls
+pub mod Judging
