@@ -1,12 +1,13 @@
 -- Laws of bytes as blocks of sixteen. Assumes nothing.
 use mathlib.Core.Path.{_≡_, refl, sym, ap, ap₂, _∙_}
-use Prim.Native.Nat.{ℕ, zero, suc, _+_, _-_, _*_, _≤_, _<_}
+use Prim.Native.Nat.{ℕ, zero, suc, _+_, _-_, _*_, _/_, _^_, _≤_, _<_}
 use native.Mathlib.Nat.{zero-add, suc-add, le-of-suc-le-suc, not-suc-le-zero, suc-sub-suc, sub-zero}
 use native.Mathlib.Omega.{arith}
-use mathlib.Core.List.{List, [], _∷_}
-use lib.ListN.{length, take, drop, getD}
-use lib.Seq.{take-take, drop-drop, take-nil}
-use Rattle.block.specs.Bytes.{fromBytes, blocks}
+use mathlib.Core.List.{List, [], _∷_, _++_}
+use lib.ListN.{length, take, drop, getD, length-append}
+use lib.Seq.{take-take, drop-drop, take-nil, take-at, drop-at}
+use Rattle.block.specs.Bytes.{fromBytes, toBytes, blocks, blocksOf}
+use Rattle.block.proofs.Numbers.{length-toBytes, from-to}
 
 pub length-blocks : (n : ℕ) (xs : List ℕ) → length (blocks n xs) ≡ n
 unfolding blocks
@@ -45,3 +46,13 @@ take-blocks (suc j) (suc n) xs h =
     ap₂ (λ (x : ℕ) (l : List ℕ). x ∷ l)
     (ap fromBytes (sym (take-take 16 (16 * suc j) xs (omega arith))))
     (take-blocks j n (drop 16 xs) (le-of-suc-le-suc h) ∙ ap (blocks j) (sym (drop-take 16 (16 * j) xs) ∙ ap (λ (k : ℕ). drop 16 (take k xs)) e))
+
+-- a block in front
+pub blocksOf-cons : (x : ℕ) (l : List ℕ) → x < 2 ^ 128 → blocksOf (toBytes 16 x ++ l) ≡ x ∷ blocksOf l
+unfolding blocksOf blocks
+blocksOf-cons x l h =
+    let e : length (toBytes 16 x ++ l) / 16 ≡ suc (length l / 16) = omega (arith, length-append (toBytes 16 x) l, length-toBytes 16 x) in
+    ap (λ (n : ℕ). blocks n (toBytes 16 x ++ l)) e
+    ∙ ap₂ (λ (y : List ℕ) (r : List ℕ). fromBytes y ∷ blocks (length l / 16) r)
+    (take-at (toBytes 16 x) l 16 (length-toBytes 16 x)) (drop-at (toBytes 16 x) l 16 (length-toBytes 16 x))
+    ∙ ap (λ (y : ℕ). y ∷ blocks (length l / 16) l) (from-to 16 x h)

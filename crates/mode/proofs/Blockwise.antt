@@ -5,11 +5,11 @@ use Prim.Native.Nat.{ℕ, zero, suc, _+_, _*_, _/_, _%_, _^_, _≤_, _<_}
 use native.Mathlib.Nat.{min-le-left, add-zero, add-comm}
 use native.Mathlib.Omega.{arith}
 use lib.ListN.{length, take, drop, length-append, length-take, length-drop, take-append-drop, drop-of-length-le}
-use lib.Seq.{take-at, drop-at, drop-drop, drop-append-add, length-take-le}
+use lib.Seq.{take-at, drop-drop, drop-append-add, length-take-le}
 use lib.Bits.{bitXor}
 use Rattle.block.specs.Bytes.{Bytes, Plain, fromBytes, toBytes, blocks, blocksOf, xorBytes}
-use Rattle.block.proofs.Blocks.{length-blocks}
-use Rattle.block.proofs.Numbers.{length-toBytes, from-to, to-from, block-lt, bytes-toBytes, toBytes-xor}
+use Rattle.block.proofs.Blocks.{length-blocks, blocksOf-cons}
+use Rattle.block.proofs.Numbers.{length-toBytes, to-from, block-lt, bytes-toBytes, toBytes-xor}
 use Rattle.block.proofs.Lists.{bytes-take, bytes-drop, bytes-append, xor-append}
 use Rattle.mode.specs.Sealing.{blockwise}
 
@@ -27,16 +27,6 @@ blocks-below (suc n) l h =
 pub blocksOf-below : (l : List ℕ) → Bytes l → Below (blocksOf l)
 unfolding blocksOf
 blocksOf-below l h = blocks-below (length l / 16) l h
-
--- a block in front
-blocksOf-cons : (x : ℕ) (l : List ℕ) → x < 2 ^ 128 → blocksOf (toBytes 16 x ++ l) ≡ x ∷ blocksOf l
-unfolding blocksOf blocks
-blocksOf-cons x l h =
-    let e : length (toBytes 16 x ++ l) / 16 ≡ suc (length l / 16) = omega (arith, length-append (toBytes 16 x) l, length-toBytes 16 x) in
-    ap (λ (n : ℕ). blocks n (toBytes 16 x ++ l)) e
-    ∙ ap₂ (λ (y : List ℕ) (r : List ℕ). fromBytes y ∷ blocks (length l / 16) r)
-    (take-at (toBytes 16 x) l 16 (length-toBytes 16 x)) (drop-at (toBytes 16 x) l 16 (length-toBytes 16 x))
-    ∙ ap (λ (y : ℕ). y ∷ blocks (length l / 16) l) (from-to 16 x h)
 
 -- the blocks themselves, as bytes
 abbrev pub itself : ℕ → ℕ → ℕ

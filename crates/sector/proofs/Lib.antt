@@ -7,3 +7,5 @@ pub mod Judging
 pub mod Prepared
 pub mod Public
 pub mod Opened
+pub mod Marked
+pub mod Demand2
