@@ -1,0 +1,116 @@
+// The C interface. Each function's contract is that of the call that it names, with the answer as document 01's number: 0 for whole or done,
+// 81, 82 or 83 (hexadecimal) for doubt at local, tag or remote, or the refusal.
+use sector::Done;
+use sector::Judged;
+use sector::Place;
+use sector::Refusal;
+ghost use mathlib.Core.Path.{_≡_};
+ghost use Rattle.sector.specs.Answers.{refusalNumber, placeNumber, doneNumber, judgedNumber};
+ghost use Rattle.sector.specs.Calls.{key, triple, sealCall, judgeCall, openCall, rebuildCall, combineCall};
+ghost use Rattle.sector.specs.Calls as C;
+
+fn refusal_number(r: Refusal) -> u32
+    ensures { λ n. ⌜ n ≡ refusalNumber r ⌝ }
+{
+    match r {
+        Refusal::KeyLength => 1,
+        Refusal::SectorSize => 2,
+        Refusal::OtherLength => 3,
+        Refusal::UnknownSide => 4,
+        Refusal::NoneFits => 5,
+        Refusal::Lost => 6,
+        Refusal::Clashing => 7,
+    }
+}
+
+fn place_number(p: Place) -> u32
+    ensures { λ n. ⌜ n ≡ placeNumber p ⌝ }
+{
+    match p {
+        Place::Local => 0x81,
+        Place::Tag => 0x82,
+        Place::Remote => 0x83,
+    }
+}
+
+fn done_number(d: Done) -> u32
+    ensures { λ n. ⌜ n ≡ doneNumber d ⌝ }
+{
+    match d {
+        Done::Done => 0,
+        Done::Refused(r) => refusal_number(r),
+    }
+}
+
+fn judged_number(j: Judged) -> u32
+    ensures { λ n. ⌜ n ≡ judgedNumber j ⌝ }
+{
+    match j {
+        Judged::Whole => 0,
+        Judged::Doubtful(p) => place_number(p),
+        Judged::Refused(r) => refusal_number(r),
+    }
+}
+
+#[no_mangle]
+pub extern "C" fn mirror_seal(
+    key: &[u8],
+    address: u64,
+    plain: &[u8],
+    local: &mut [u8],
+    remote: &mut [u8],
+    tag: &mut [u8],
+) -> u32
+    ensures { λ r. ⌜ sealCall (C.key (now (key .entry))) address (now (plain .entry)) (triple (now (local .entry)) (now (tag .entry)) (now (remote .entry))) ≡ (r, triple (now (local .exit)) (now (tag .exit)) (now (remote .exit))) ⌝ }
+{
+    done_number(sector::seal(key, address, plain, local, remote, tag))
+}
+
+#[no_mangle]
+pub extern "C" fn mirror_judge(
+    key: &[u8],
+    address: u64,
+    local: &[u8],
+    tag: &[u8],
+    remote: &[u8],
+    out: &mut [u8],
+) -> u32
+    ensures { λ r. ⌜ judgeCall (C.key (now (key .entry))) address (triple (now (local .entry)) (now (tag .entry)) (now (remote .entry))) (now (out .entry)) ≡ (r, now (out .exit)) ⌝ }
+{
+    judged_number(sector::judge(key, address, local, tag, remote, out))
+}
+
+#[no_mangle]
+pub extern "C" fn mirror_open(
+    key: &[u8],
+    address: u64,
+    side: u32,
+    sector: &[u8],
+    tag: &[u8],
+    out: &mut [u8],
+) -> u32
+    ensures { λ r. ⌜ openCall (C.key (now (key .entry))) address side (now (sector .entry)) (now (tag .entry)) (now (out .entry)) ≡ (r, now (out .exit)) ⌝ }
+{
+    done_number(sector::open(key, address, side, sector, tag, out))
+}
+
+#[no_mangle]
+pub extern "C" fn mirror_rebuild(
+    key: &[u8],
+    address: u64,
+    side: u32,
+    sector: &[u8],
+    tag: &[u8],
+    out: &mut [u8],
+) -> u32
+    ensures { λ r. ⌜ rebuildCall (C.key (now (key .entry))) address side (now (sector .entry)) (now (tag .entry)) (now (out .entry)) ≡ (r, now (out .exit)) ⌝ }
+{
+    done_number(sector::rebuild(key, address, side, sector, tag, out))
+}
+
+#[no_mangle]
+pub extern "C" fn mirror_combine(local: &[u8], remote: &[u8], out: &mut [u8]) -> u32
+    ensures { λ r. ⌜ combineCall (now (local .entry)) (now (remote .entry)) (now (out .entry)) ≡ (r, now (out .exit)) ⌝ }
+{
+    done_number(sector::combine(local, remote, out))
+}
