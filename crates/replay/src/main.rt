@@ -1,0 +1,533 @@
+// Replays stored vectors through the sector's calls. Standard input has one vector a line, in hexadecimal, as make_vectors of
+// tests/reference prints them: the call's number, then fields, each after its length in two bytes. The fields are the call's parameters
+// in order, then the answer's number and each slice that the call writes, as it is after. A vector agrees where the call gives that
+// number and leaves every byte of those slices so.
+use libc::STDIN_FILENO;
+use libc::STDOUT_FILENO;
+use sector::Done;
+use sector::Judged;
+use sector::Place;
+use sector::Refusal;
+ghost use mathlib.Core.Path.{_≡_};
+ghost use Prim.Native.Nat.{_+_, _*_, _≤_, _<_};
+ghost use lib.ListN.{length};
+ghost use Rattle.sector.specs.Answers.{refusalNumber, placeNumber, judgedNumber, doneNumber};
+
+const SEAL: u8 = 0;
+
+const JUDGE: u8 = 1;
+
+const OPEN: u8 = 2;
+
+const REBUILD: u8 = 3;
+
+const COMBINE: u8 = 4;
+
+const UNKNOWN: u8 = 5;
+
+// How many vectors of one kind agreed, and how many did not.
+struct Tally {
+    agreed: usize,
+    differ: usize,
+}
+
+// ---- the numbers of answers
+
+fn place_number(p: Place) -> u8
+    ensures { λ r. ⌜ r ≡ placeNumber p ⌝ }
+{
+    match p {
+        Place::Local => 0x81,
+        Place::Tag => 0x82,
+        Place::Remote => 0x83,
+    }
+}
+
+fn refusal_number(f: Refusal) -> u8
+    ensures { λ r. ⌜ r ≡ refusalNumber f ⌝ }
+{
+    match f {
+        Refusal::KeyLength => 1,
+        Refusal::SectorSize => 2,
+        Refusal::OtherLength => 3,
+        Refusal::UnknownSide => 4,
+        Refusal::NoneFits => 5,
+        Refusal::Lost => 6,
+        Refusal::Clashing => 7,
+    }
+}
+
+fn judged_number(j: Judged) -> u8
+    ensures { λ r. ⌜ r ≡ judgedNumber j ⌝ }
+{
+    match j {
+        Judged::Whole => 0,
+        Judged::Doubtful(p) => place_number(p),
+        Judged::Refused(f) => refusal_number(f),
+    }
+}
+
+fn done_number(d: Done) -> u8
+    ensures { λ r. ⌜ r ≡ doneNumber d ⌝ }
+{
+    match d {
+        Done::Done => 0,
+        Done::Refused(f) => refusal_number(f),
+    }
+}
+
+// ---- the fields of a frame
+
+fn wide(x: u8) -> usize
+    ensures { λ r. ⌜ r < 256 ⌝ }
+{
+    x as usize
+}
+
+// The end of the field that starts at `at`, and 0 where no whole field does.
+fn after(frame: &[u8], at: usize) -> usize
+    requires { ⌜ at ≤ length (now frame) ⌝ }
+    ensures { λ r. ⌜ r ≤ length (now (frame .entry)) ⌝ }
+{
+    if at == 0 {
+        return 0;
+    }
+    if frame.len() - at < 2 {
+        return 0;
+    }
+    let size = wide(frame[at]) * 256 + wide(frame[at + 1]);
+    let from = at + 2;
+    if frame.len() - from < size {
+        return 0;
+    }
+    from + size
+}
+
+// The start of field n, or 0: field 0 stands behind the call's number.
+fn start(frame: &[u8], n: usize) -> usize
+    ensures { λ r. ⌜ r ≤ length (now (frame .entry)) ⌝ }
+{
+    if frame.len() == 0 {
+        return 0;
+    }
+    let mut at: usize = 1;
+    let mut k: usize = 0;
+    while k < n {
+        at = after(frame, at);
+        k += 1;
+    }
+    at
+}
+
+// Whether a frame has n whole fields and no more.
+fn has_fields(frame: &[u8], n: usize) -> bool {
+    let end = start(frame, n);
+    if end == 0 {
+        return false;
+    }
+    end == frame.len()
+}
+
+// The bytes of field n, none where there is no such field.
+fn field(frame: &[u8], n: usize) -> &[u8] {
+    let at = start(frame, n);
+    let end = after(frame, at);
+    if at < end {
+        if 2 <= end - at {
+            let from = at + 2;
+            return &frame[from..end];
+        }
+    }
+    &frame[..0]
+}
+
+// Up to eight bytes as a number, high first.
+fn number(s: &[u8]) -> u64 {
+    let mut x: u64 = 0;
+    let mut i: usize = 0;
+    while i < s.len() {
+        x = (x << 8) | (wide(s[i]) as u64);
+        i += 1;
+    }
+    x
+}
+
+fn address(frame: &[u8]) -> u64 {
+    number(field(frame, 1))
+}
+
+fn side(frame: &[u8]) -> u32 {
+    (number(field(frame, 2)) % 0x1_0000_0000) as u32
+}
+
+// Whether field n is the answer's number, and no more.
+fn is_answer(frame: &[u8], n: usize, answer: u8) -> bool {
+    let due = field(frame, n);
+    if due.len() == 1 {
+        due[0] == answer
+    } else {
+        false
+    }
+}
+
+// ---- the calls
+
+// Makes a lent slice as it was before. False where its length is another.
+fn fill(before: &[u8], out: &mut [u8]) -> bool {
+    if before.len() != out.len() {
+        return false;
+    }
+    block::copy(before, out);
+    true
+}
+
+fn seal(frame: &[u8], local: &mut [u8], remote: &mut [u8], tag: &mut [u8]) -> u8 {
+    done_number(sector::seal(
+        field(frame, 0),
+        address(frame),
+        field(frame, 2),
+        local,
+        remote,
+        tag,
+    ))
+}
+
+fn judge(frame: &[u8], out: &mut [u8]) -> u8 {
+    judged_number(sector::judge(
+        field(frame, 0),
+        address(frame),
+        field(frame, 2),
+        field(frame, 3),
+        field(frame, 4),
+        out,
+    ))
+}
+
+fn open(frame: &[u8], out: &mut [u8]) -> u8 {
+    done_number(sector::open(
+        field(frame, 0),
+        address(frame),
+        side(frame),
+        field(frame, 3),
+        field(frame, 4),
+        out,
+    ))
+}
+
+fn rebuild(frame: &[u8], out: &mut [u8]) -> u8 {
+    done_number(sector::rebuild(
+        field(frame, 0),
+        address(frame),
+        side(frame),
+        field(frame, 3),
+        field(frame, 4),
+        out,
+    ))
+}
+
+fn combine(frame: &[u8], out: &mut [u8]) -> u8 {
+    done_number(sector::combine(field(frame, 0), field(frame, 1), out))
+}
+
+// The answer's number of a call that writes one slice.
+fn answer(kind: u8, frame: &[u8], out: &mut [u8]) -> u8 {
+    if kind == JUDGE {
+        return judge(frame, out);
+    }
+    if kind == OPEN {
+        return open(frame, out);
+    }
+    if kind == REBUILD {
+        return rebuild(frame, out);
+    }
+    combine(frame, out)
+}
+
+// Whether a call that writes one slice agrees. Field n is the slice before, the next the answer, the last the slice after.
+fn agrees_in(kind: u8, frame: &[u8], n: usize, out: &mut [u8]) -> bool
+    requires { ⌜ n < 10 ⌝ }
+{
+    if fill(field(frame, n), out) {
+        if is_answer(frame, n + 1, answer(kind, frame, out)) {
+            return block::same(&out[..], field(frame, n + 2));
+        }
+    }
+    false
+}
+
+fn agrees(kind: u8, frame: &[u8], n: usize) -> bool
+    requires { ⌜ n < 10 ⌝ }
+{
+    if has_fields(frame, n + 3) {
+        let before = field(frame, n);
+        let size = before.len();
+        if size <= 4096 {
+            let mut out = io::buffer();
+            return agrees_in(kind, frame, n, &mut out[..size]);
+        }
+    }
+    false
+}
+
+// Makes the three slices that sealing writes as they were before.
+fn fill_three(frame: &[u8], local: &mut [u8], remote: &mut [u8], tag: &mut [u8]) -> bool {
+    if fill(field(frame, 3), local) {
+        if fill(field(frame, 4), remote) {
+            return fill(field(frame, 5), tag);
+        }
+    }
+    false
+}
+
+// Whether the three slices that sealing writes are as they should be after.
+fn same_three(frame: &[u8], local: &[u8], remote: &[u8], tag: &[u8]) -> bool {
+    if block::same(local, field(frame, 7)) {
+        if block::same(remote, field(frame, 8)) {
+            return block::same(tag, field(frame, 9));
+        }
+    }
+    false
+}
+
+fn seal_agrees_in(frame: &[u8], local: &mut [u8], remote: &mut [u8], tag: &mut [u8]) -> bool {
+    if fill_three(frame, local, remote, tag) {
+        if is_answer(frame, 6, seal(frame, local, remote, tag)) {
+            return same_three(frame, &local[..], &remote[..], &tag[..]);
+        }
+    }
+    false
+}
+
+// Whether a sealing whose three slices have these lengths agrees.
+fn seal_agrees_at(frame: &[u8], l: usize, r: usize, g: usize) -> bool {
+    if l <= 4096 {
+        if r <= 4096 {
+            if g <= 4096 {
+                let mut local = io::buffer();
+                let mut remote = io::buffer();
+                let mut tag = io::buffer();
+                return seal_agrees_in(frame, &mut local[..l], &mut remote[..r], &mut tag[..g]);
+            }
+        }
+    }
+    false
+}
+
+fn seal_agrees(frame: &[u8]) -> bool {
+    if has_fields(frame, 10) {
+        let local = field(frame, 3);
+        let remote = field(frame, 4);
+        let tag = field(frame, 5);
+        return seal_agrees_at(frame, local.len(), remote.len(), tag.len());
+    }
+    false
+}
+
+fn frame_agrees(kind: u8, frame: &[u8]) -> bool {
+    if kind == SEAL {
+        return seal_agrees(frame);
+    }
+    if kind == COMBINE {
+        return agrees(kind, frame, 2);
+    }
+    if kind == UNKNOWN {
+        return false;
+    }
+    agrees(kind, frame, 5)
+}
+
+// ---- lines
+
+// The value of a hexadecimal digit, and 16 of any other byte.
+fn digit(c: u8) -> u8
+    ensures { λ r. ⌜ r ≤ 16 ⌝ }
+{
+    match c {
+        b'0'..=b'9' => c - b'0',
+        b'a'..=b'f' => c - b'a' + 10,
+        _ => 16,
+    }
+}
+
+// The bytes of a line of digits. False where another byte is among them.
+fn decode(line: &[u8], frame: &mut [u8]) -> bool
+    requires { ⌜ length (now line) ≡ 2 * length (now frame) ⌝ }
+{
+    let mut i: usize = 0;
+    while i < frame.len() {
+        let high = digit(line[2 * i]);
+        let low = digit(line[2 * i + 1]);
+        if 15 < high {
+            return false;
+        }
+        if 15 < low {
+            return false;
+        }
+        frame[i] = 16 * high + low;
+        i += 1;
+    }
+    true
+}
+
+fn line_agrees_in(kind: u8, line: &[u8], frame: &mut [u8]) -> bool
+    requires { ⌜ length (now line) ≡ 2 * length (now frame) ⌝ }
+{
+    if decode(line, frame) {
+        return frame_agrees(kind, &frame[..]);
+    }
+    false
+}
+
+fn line_agrees(kind: u8, line: &[u8]) -> bool {
+    let size = line.len() / 2;
+    if size <= 65536 {
+        if 2 * size == line.len() {
+            let mut frame = io::large_buffer();
+            return line_agrees_in(kind, line, &mut frame[..size]);
+        }
+    }
+    false
+}
+
+// The call that a line is for.
+fn kind_of(line: &[u8]) -> u8 {
+    if line.len() < 2 {
+        return UNKNOWN;
+    }
+    if line[0] == b'0' {
+        let kind = digit(line[1]);
+        if kind < UNKNOWN {
+            return kind;
+        }
+    }
+    UNKNOWN
+}
+
+// The end of the line that starts at `at`: its line feed, or the end of the text.
+fn line_end(text: &[u8], at: usize) -> usize
+    requires { ⌜ at ≤ length (now text) ⌝ }
+    ensures { λ r. ⌜ (at ≤ r) × (r ≤ length (now (text .entry))) ⌝ }
+{
+    let mut end = at;
+    while end < text.len() {
+        if text[end] == b'\n' {
+            return end;
+        }
+        end += 1;
+    }
+    end
+}
+
+// The start of the line after the one that ends at `end`.
+fn line_after(text: &[u8], at: usize, end: usize) -> usize
+    requires { ⌜ (at ≤ end) × (end ≤ length (now text)) × (at < length (now text)) ⌝ }
+    ensures { λ r. ⌜ (at < r) × (r ≤ length (now (text .entry))) ⌝ }
+{
+    if end < text.len() {
+        return end + 1;
+    }
+    end
+}
+
+// ---- the report
+
+fn print_name(kind: u8) {
+    if kind == SEAL {
+        io::write_all(STDOUT_FILENO, b"seal");
+    }
+    if kind == JUDGE {
+        io::write_all(STDOUT_FILENO, b"judge");
+    }
+    if kind == OPEN {
+        io::write_all(STDOUT_FILENO, b"open");
+    }
+    if kind == REBUILD {
+        io::write_all(STDOUT_FILENO, b"rebuild");
+    }
+    if kind == COMBINE {
+        io::write_all(STDOUT_FILENO, b"combine");
+    }
+    if kind == UNKNOWN {
+        io::write_all(STDOUT_FILENO, b"unknown");
+    }
+}
+
+fn print_difference(kind: u8, n: usize) {
+    print_name(kind);
+    io::write_all(STDOUT_FILENO, b" differs in line ");
+    io::print_decimal(STDOUT_FILENO, n as u64);
+    io::write_all(STDOUT_FILENO, b"\n");
+}
+
+// Counts a line if it is of this kind, and says where it differs. It is the n-th line.
+fn counted(tally: Tally, kind: u8, line: &[u8], n: usize) -> Tally
+    requires { ⌜ tally .agreed + tally .differ < n ⌝ }
+    ensures { λ r. ⌜ r .agreed + r .differ ≤ n ⌝ }
+{
+    if kind_of(line) != kind {
+        return tally;
+    }
+    if line_agrees(kind, line) {
+        return Tally {
+            agreed: tally.agreed + 1,
+            differ: tally.differ,
+        };
+    }
+    print_difference(kind, n);
+    Tally {
+        agreed: tally.agreed,
+        differ: tally.differ + 1,
+    }
+}
+
+// Replays the lines of one kind.
+fn replay(text: &[u8], kind: u8) -> Tally {
+    let mut tally = Tally {
+        agreed: 0,
+        differ: 0,
+    };
+    let mut at: usize = 0;
+    let mut n: usize = 0;
+    while at < text.len() {
+        let end = line_end(text, at);
+        n += 1;
+        tally = counted(tally, kind, &text[at..end], n);
+        at = line_after(text, at, end);
+    }
+    tally
+}
+
+fn report(text: &[u8], kind: u8) {
+    let tally = replay(text, kind);
+    print_name(kind);
+    io::write_all(STDOUT_FILENO, b" ");
+    io::print_decimal(STDOUT_FILENO, tally.agreed as u64);
+    io::write_all(STDOUT_FILENO, b" agreed ");
+    io::print_decimal(STDOUT_FILENO, tally.differ as u64);
+    io::write_all(STDOUT_FILENO, b" differ\n");
+}
+
+fn report_all(text: &[u8]) {
+    if text.len() == 1048576 {
+        io::write_all(STDOUT_FILENO, b"the input is too long\n");
+    }
+    report(text, SEAL);
+    report(text, JUDGE);
+    report(text, OPEN);
+    report(text, REBUILD);
+    report(text, COMBINE);
+    report(text, UNKNOWN);
+}
+
+// Room for the whole input.
+fn room() -> [u8; 1048576]
+    ensures { λ r. ⌜ 1048576 ≡ length r ⌝ }
+{
+    [0; 1048576]
+}
+
+fn main() {
+    let mut space = room();
+    let size = io::read_full(STDIN_FILENO, &mut space);
+    report_all(&space[..size]);
+}

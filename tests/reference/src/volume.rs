@@ -1,0 +1,257 @@
+//! A volume of sealed sectors, held in three images.
+//!
+//! Every call is lent all three images, since refusal 8 looks at each of them;
+//! it is lent writable only those that it may write.
+
+// The calls take what the requirement names, one parameter for each.
+#![allow(clippy::too_many_arguments)]
+
+use std::ops::Range;
+
+use crate::answer::{Place, Refusal, Verdict};
+use crate::field::{to_blocks, write_blocks, BLOCK_BYTES};
+use crate::seal::{check_length, check_sector_size, Sealer, Triple, TAG_BYTES};
+
+/// The most sectors that a volume can have.
+pub const MAX_SECTORS: usize = 65_536;
+
+/// What a survey counts.
+#[derive(Clone, Copy, Debug, Default, PartialEq, Eq)]
+pub struct Survey {
+    pub whole: usize,
+    pub doubtful: usize,
+    pub clashing: usize,
+    pub lost: usize,
+    /// Whole sectors in a thousand, rounded down.
+    pub health: usize,
+}
+
+/// Seals zeros into all three places of one sector.
+pub fn blank(
+    key: &[u8],
+    size: usize,
+    count: usize,
+    local: &mut [u8],
+    tag: &mut [u8],
+    remote: &mut [u8],
+    number: usize,
+) -> Result<(), Refusal> {
+    let sealer = check_sector(key, size, count, local, tag, remote, number)?;
+    let zeros = vec![0; size / BLOCK_BYTES];
+    let sealed = sealer.seal(number as u64, &zeros);
+    write_blocks(&sealed.local, &mut local[part(number, size)]);
+    write_blocks(&[sealed.tag], &mut tag[part(number, TAG_BYTES)]);
+    write_blocks(&sealed.remote, &mut remote[part(number, size)]);
+    Ok(())
+}
+
+/// Writes the local sector of a plaintext over a whole sector.
+pub fn first_stage(
+    key: &[u8],
+    size: usize,
+    count: usize,
+    local: &mut [u8],
+    tag: &[u8],
+    remote: &[u8],
+    number: usize,
+    plaintext: &[u8],
+) -> Result<(), Refusal> {
+    let sealer = check_sector(key, size, count, local, tag, remote, number)?;
+    check_length(plaintext, size)?;
+    let held = held(size, local, tag, remote, number);
+    let is_whole = matches!(sealer.judge(number as u64, &held), Ok((Verdict::Whole, _)));
+    allow_stage(is_whole)?;
+    let sealed = sealer.seal(number as u64, &to_blocks(plaintext));
+    write_blocks(&sealed.local, &mut local[part(number, size)]);
+    Ok(())
+}
+
+/// Writes the tag of a plaintext that fits the local place.
+pub fn second_stage(
+    key: &[u8],
+    size: usize,
+    count: usize,
+    local: &[u8],
+    tag: &mut [u8],
+    remote: &[u8],
+    number: usize,
+    plaintext: &[u8],
+) -> Result<(), Refusal> {
+    let sealer = check_sector(key, size, count, local, tag, remote, number)?;
+    check_length(plaintext, size)?;
+    let held = held(size, local, tag, remote, number);
+    let sealed = sealer.seal(number as u64, &to_blocks(plaintext));
+    allow_stage(sealed.local == held.local)?;
+    write_blocks(&[sealed.tag], &mut tag[part(number, TAG_BYTES)]);
+    Ok(())
+}
+
+/// Writes the remote sector of a plaintext that fits the local place and the
+/// tag.
+pub fn third_stage(
+    key: &[u8],
+    size: usize,
+    count: usize,
+    local: &[u8],
+    tag: &[u8],
+    remote: &mut [u8],
+    number: usize,
+    plaintext: &[u8],
+) -> Result<(), Refusal> {
+    let sealer = check_sector(key, size, count, local, tag, remote, number)?;
+    check_length(plaintext, size)?;
+    let held = held(size, local, tag, remote, number);
+    let sealed = sealer.seal(number as u64, &to_blocks(plaintext));
+    allow_stage(sealed.local == held.local && sealed.tag == held.tag)?;
+    write_blocks(&sealed.remote, &mut remote[part(number, size)]);
+    Ok(())
+}
+
+/// Judges one sector and gives its plaintext.
+pub fn read(
+    key: &[u8],
+    size: usize,
+    count: usize,
+    local: &[u8],
+    tag: &[u8],
+    remote: &[u8],
+    number: usize,
+    output: &mut [u8],
+) -> Result<Verdict, Refusal> {
+    let sealer = check_sector(key, size, count, local, tag, remote, number)?;
+    check_length(output, size)?;
+    let held = held(size, local, tag, remote, number);
+    let (verdict, plaintext) = sealer.judge(number as u64, &held)?;
+    write_blocks(&plaintext, output);
+    Ok(verdict)
+}
+
+/// Writes the doubtful place anew, if there is one, and gives the verdict
+/// found before.
+pub fn mend(
+    key: &[u8],
+    size: usize,
+    count: usize,
+    local: &mut [u8],
+    tag: &mut [u8],
+    remote: &mut [u8],
+    number: usize,
+) -> Result<Verdict, Refusal> {
+    let sealer = check_sector(key, size, count, local, tag, remote, number)?;
+    let held = held(size, local, tag, remote, number);
+    let (verdict, plaintext) = sealer.judge(number as u64, &held)?;
+    if let Verdict::Doubtful(place) = verdict {
+        let sealed = sealer.seal(number as u64, &plaintext);
+        match place {
+            Place::Local => write_blocks(&sealed.local, &mut local[part(number, size)]),
+            Place::Tag => write_blocks(&[sealed.tag], &mut tag[part(number, TAG_BYTES)]),
+            Place::Remote => write_blocks(&sealed.remote, &mut remote[part(number, size)]),
+        }
+    }
+    Ok(verdict)
+}
+
+/// Judges every sector, counts the verdicts and lists, in rising order, the
+/// numbers of the sectors that are not whole.
+pub fn survey(
+    key: &[u8],
+    size: usize,
+    count: usize,
+    local: &[u8],
+    tag: &[u8],
+    remote: &[u8],
+    list: &mut [u32],
+) -> Result<Survey, Refusal> {
+    let sealer = check_volume(key, size, count, local, tag, remote)?;
+    if list.len() < count {
+        return Err(Refusal::ShortList);
+    }
+    let mut survey = Survey::default();
+    let mut listed = 0;
+    for number in 0..count {
+        let verdict = sealer
+            .judge(number as u64, &held(size, local, tag, remote, number))
+            .map(|(verdict, _)| verdict);
+        survey.add(verdict);
+        if verdict != Ok(Verdict::Whole) {
+            list[listed] = number as u32;
+            listed += 1;
+        }
+    }
+    survey.health = survey.whole * 1000 / count;
+    Ok(survey)
+}
+
+impl Survey {
+    fn add(&mut self, verdict: Result<Verdict, Refusal>) {
+        match verdict {
+            Ok(Verdict::Whole) => self.whole += 1,
+            Ok(Verdict::Doubtful(_)) => self.doubtful += 1,
+            Err(Refusal::Clashing) => self.clashing += 1,
+            Err(_) => self.lost += 1,
+        }
+    }
+}
+
+/// Refusals 1, 2 and 8.
+fn check_volume(
+    key: &[u8],
+    size: usize,
+    count: usize,
+    local: &[u8],
+    tag: &[u8],
+    remote: &[u8],
+) -> Result<Sealer, Refusal> {
+    let sealer = Sealer::new(key)?;
+    check_sector_size(size)?;
+    let fits = (1..=MAX_SECTORS).contains(&count)
+        && local.len() == count * size
+        && tag.len() == count * TAG_BYTES
+        && remote.len() == count * size;
+    if fits {
+        Ok(sealer)
+    } else {
+        Err(Refusal::VolumeShape)
+    }
+}
+
+/// Refusals 1, 2, 8 and 9.
+fn check_sector(
+    key: &[u8],
+    size: usize,
+    count: usize,
+    local: &[u8],
+    tag: &[u8],
+    remote: &[u8],
+    number: usize,
+) -> Result<Sealer, Refusal> {
+    let sealer = check_volume(key, size, count, local, tag, remote)?;
+    if number < count {
+        Ok(sealer)
+    } else {
+        Err(Refusal::SectorNumber)
+    }
+}
+
+/// Refusal 10.
+fn allow_stage(ready: bool) -> Result<(), Refusal> {
+    if ready {
+        Ok(())
+    } else {
+        Err(Refusal::WrongStage)
+    }
+}
+
+/// Where sector `number` lies in an image with `bytes` for each sector.
+pub fn part(number: usize, bytes: usize) -> Range<usize> {
+    number * bytes..(number + 1) * bytes
+}
+
+/// What one sector's three places hold.
+fn held(size: usize, local: &[u8], tag: &[u8], remote: &[u8], number: usize) -> Triple {
+    Triple::from_bytes(
+        &local[part(number, size)],
+        &tag[part(number, TAG_BYTES)],
+        &remote[part(number, size)],
+    )
+}

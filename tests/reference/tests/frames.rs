@@ -1,0 +1,156 @@
+//! The program `frames`, as a function and as a program.
+
+mod common;
+
+use std::io::Write;
+use std::process::{Command, Stdio};
+
+use reference::frames::run;
+use reference::hex;
+use reference::rng::Rng;
+
+const LARGEST: usize = 4096;
+
+fn answer(input: &str) -> String {
+    String::from_utf8(run(input.as_bytes())).expect("digits and line feeds")
+}
+
+fn example() -> (String, String) {
+    let zeros = "0".repeat(28);
+    let input = format!("ff\n02{zeros}03ff{zeros}0200\n");
+    let output = format!("0c\n00{zeros}01ff\n");
+    (input, output)
+}
+
+/// A frame of kind `01` in digits, without its line feed.
+fn judge_frame(key: &[u8], address: u64, held: &common::Sealed) -> String {
+    let bytes = [
+        &[1],
+        key,
+        &address.to_be_bytes(),
+        &held.local,
+        &held.tag,
+        &held.remote,
+    ]
+    .concat();
+    hex::encode(&bytes)
+}
+
+#[test]
+fn the_example() {
+    let (input, output) = example();
+    assert_eq!(answer(&input), output);
+}
+
+#[test]
+fn the_program_runs_the_function() {
+    let (input, output) = example();
+    let mut child = Command::new(env!("CARGO_BIN_EXE_frames"))
+        .stdin(Stdio::piped())
+        .stdout(Stdio::piped())
+        .spawn()
+        .expect("the program was built");
+    let mut stdin = child.stdin.take().expect("standard input is piped");
+    stdin.write_all(input.as_bytes()).expect("it reads");
+    drop(stdin);
+    let result = child.wait_with_output().expect("it ends");
+    assert!(result.status.success());
+    assert_eq!(result.stdout, output.as_bytes());
+}
+
+#[test]
+fn line_ends() {
+    assert_eq!(answer(""), "");
+    assert_eq!(answer("\n"), "0c\n");
+    assert_eq!(answer("\n\n"), "0c\n0c\n");
+    assert_eq!(answer("02"), "02\n");
+    assert_eq!(answer("02\n"), "02\n");
+    assert_eq!(answer("02\n\n"), "02\n0c\n");
+    assert_eq!(answer("\n02"), "0c\n02\n");
+    assert_eq!(answer("02\r\n"), "0c\n");
+}
+
+#[test]
+fn bad_frames() {
+    let cases = [
+        "0", "2", "020", "0g", "g0", " 02", "02 ", "0x02", "00", "03", "12", "20", "01", "+2",
+        "\u{e9}",
+    ];
+    for case in cases {
+        assert_eq!(answer(case), "0c\n", "{case}");
+    }
+    assert_eq!(run(b"\xff\xfe"), b"0c\n");
+    assert_eq!(run(b"02\0\0"), b"0c\n");
+}
+
+#[test]
+fn lengths_of_judge_frames() {
+    let frame = |bytes: usize| format!("01{}", "00".repeat(bytes - 1));
+    assert_eq!(answer(&frame(56)), "0c\n");
+    assert_eq!(answer(&frame(57)), "02\n");
+    assert_eq!(answer(&frame(58)), "03\n");
+    assert_eq!(answer(&frame(57 + 30)), "02\n");
+    assert_eq!(answer(&frame(57 + 31)), "03\n");
+    assert_eq!(answer(&frame(57 + 32)), "06\n");
+    assert_eq!(answer(&frame(57 + 34)), "02\n");
+    assert_eq!(answer(&frame(57 + 2 * LARGEST)), "06\n");
+    assert_eq!(answer(&frame(57 + 2 * LARGEST + 1)), "0c\n");
+}
+
+#[test]
+fn lengths_of_combine_frames() {
+    let frame = |bytes: usize| format!("02{}", "00".repeat(bytes - 1));
+    assert_eq!(answer(&frame(1)), "02\n");
+    assert_eq!(answer(&frame(2)), "03\n");
+    assert_eq!(answer(&frame(1 + 30)), "02\n");
+    assert_eq!(answer(&frame(1 + 33)), "03\n");
+    assert_eq!(answer(&frame(1 + 2 * 4112)), "02\n");
+    assert_eq!(answer(&frame(8248)), "03\n");
+    assert_eq!(answer(&frame(8249)), "02\n");
+    assert_eq!(answer(&frame(8250)), "0c\n");
+    for size in [16, 32, LARGEST] {
+        let due = format!("00{}\n", "00".repeat(size));
+        assert_eq!(answer(&frame(1 + 2 * size)), due);
+    }
+}
+
+#[test]
+fn verdicts() {
+    let mut rng = Rng::new(20);
+    for size in [16, 32, 48, 64, 512, LARGEST] {
+        let (key, address) = (rng.bytes(32), rng.next_u64());
+        let plaintext = rng.bytes(size);
+        let sealed = common::seal(&key, address, &plaintext);
+        let digits = hex::encode(&plaintext);
+
+        let frame = judge_frame(&key, address, &sealed);
+        assert_eq!(answer(&frame), format!("00{digits}\n"));
+        assert_eq!(answer(&frame.to_uppercase()), format!("00{digits}\n"));
+
+        let mut local = sealed.clone();
+        local.local[0] ^= 1;
+        let mut tag = sealed.clone();
+        tag.tag[15] ^= 1;
+        let mut remote = sealed.clone();
+        remote.remote[size - 1] ^= 1;
+        let frames = [&local, &tag, &remote].map(|held| judge_frame(&key, address, held));
+        let due = format!("81{digits}\n82{digits}\n83{digits}\n");
+        assert_eq!(answer(&frames.join("\n")), due);
+
+        let mut lost = local;
+        lost.tag[0] ^= 1;
+        assert_eq!(answer(&judge_frame(&key, address, &lost)), "06\n");
+    }
+}
+
+#[test]
+fn clash() {
+    let mut rng = Rng::new(21);
+    let (key, address) = (rng.bytes(32), rng.next_u64());
+    let zero = [&key[..16], &[0; 16]].concat();
+    let mut one = zero.clone();
+    one[31] = 1;
+    let mut held = common::seal(&key, address, &zero);
+    held.remote = common::seal(&key, address, &one).remote;
+    assert_eq!(answer(&judge_frame(&key, address, &held)), "07\n");
+}

@@ -1,0 +1,418 @@
+//! The volume calls: what each writes, and every refusal in its order.
+
+mod common;
+
+use reference::answer::{answer_number, Place, Refusal, Verdict};
+use reference::field::to_bytes;
+use reference::rng::Rng;
+use reference::volume::{
+    blank, first_stage, mend, part, read, second_stage, survey, third_stage, Survey,
+};
+
+const FILL: u8 = 0x5a;
+
+/// A volume and what its calls take.
+#[derive(Clone, PartialEq, Debug)]
+struct Volume {
+    key: Vec<u8>,
+    size: usize,
+    count: usize,
+    local: Vec<u8>,
+    tag: Vec<u8>,
+    remote: Vec<u8>,
+}
+
+impl Volume {
+    fn random(rng: &mut Rng, size: usize, count: usize) -> Volume {
+        Volume {
+            key: rng.bytes(32),
+            size,
+            count,
+            local: rng.bytes(size * count),
+            tag: rng.bytes(16 * count),
+            remote: rng.bytes(size * count),
+        }
+    }
+
+    fn blanked(rng: &mut Rng, size: usize, count: usize) -> Volume {
+        let mut volume = Volume::random(rng, size, count);
+        for number in 0..count {
+            assert_eq!(volume.blank(number), Ok(()));
+        }
+        volume
+    }
+
+    fn blank(&mut self, number: usize) -> Result<(), Refusal> {
+        let (local, tag, remote) = (&mut self.local, &mut self.tag, &mut self.remote);
+        blank(&self.key, self.size, self.count, local, tag, remote, number)
+    }
+
+    fn first(&mut self, number: usize, plaintext: &[u8]) -> Result<(), Refusal> {
+        first_stage(
+            &self.key,
+            self.size,
+            self.count,
+            &mut self.local,
+            &self.tag,
+            &self.remote,
+            number,
+            plaintext,
+        )
+    }
+
+    fn second(&mut self, number: usize, plaintext: &[u8]) -> Result<(), Refusal> {
+        second_stage(
+            &self.key,
+            self.size,
+            self.count,
+            &self.local,
+            &mut self.tag,
+            &self.remote,
+            number,
+            plaintext,
+        )
+    }
+
+    fn third(&mut self, number: usize, plaintext: &[u8]) -> Result<(), Refusal> {
+        third_stage(
+            &self.key,
+            self.size,
+            self.count,
+            &self.local,
+            &self.tag,
+            &mut self.remote,
+            number,
+            plaintext,
+        )
+    }
+
+    fn read(&self, number: usize, output: &mut [u8]) -> Result<Verdict, Refusal> {
+        read(
+            &self.key,
+            self.size,
+            self.count,
+            &self.local,
+            &self.tag,
+            &self.remote,
+            number,
+            output,
+        )
+    }
+
+    /// A read with an output of the right size.
+    fn plain(&self, number: usize) -> Result<(Verdict, Vec<u8>), Refusal> {
+        let mut output = vec![FILL; self.size];
+        let verdict = self.read(number, &mut output)?;
+        Ok((verdict, output))
+    }
+
+    fn mend(&mut self, number: usize) -> Result<Verdict, Refusal> {
+        let (local, tag, remote) = (&mut self.local, &mut self.tag, &mut self.remote);
+        mend(&self.key, self.size, self.count, local, tag, remote, number)
+    }
+
+    fn survey(&self, list: &mut [u32]) -> Result<Survey, Refusal> {
+        survey(
+            &self.key,
+            self.size,
+            self.count,
+            &self.local,
+            &self.tag,
+            &self.remote,
+            list,
+        )
+    }
+
+    /// All calls but survey, each on a copy, which a refusal must not change.
+    fn refusals(&self, number: usize, plaintext: usize) -> [u8; 6] {
+        let plaintext = vec![7; plaintext];
+        let mut copy = self.clone();
+        let mut output = plaintext.clone();
+        let answers = [
+            answer_number(&copy.blank(number)),
+            answer_number(&copy.first(number, &plaintext)),
+            answer_number(&copy.second(number, &plaintext)),
+            answer_number(&copy.third(number, &plaintext)),
+            answer_number(&copy.read(number, &mut output)),
+            answer_number(&copy.mend(number)),
+        ];
+        assert_eq!(copy, *self);
+        assert_eq!(output, plaintext);
+        answers
+    }
+
+    fn place_mut(&mut self, number: usize, place: Place) -> &mut [u8] {
+        match place {
+            Place::Local => &mut self.local[part(number, self.size)],
+            Place::Tag => &mut self.tag[part(number, 16)],
+            Place::Remote => &mut self.remote[part(number, self.size)],
+        }
+    }
+}
+
+#[test]
+fn blank_seals_zeros() {
+    let mut rng = Rng::new(30);
+    for size in [16, 64, 4096] {
+        let mut volume = Volume::random(&mut rng, size, 3);
+        let mut due = volume.clone();
+        let sealed = common::seal(&due.key, 1, &vec![0; size]);
+        due.place_mut(1, Place::Local)
+            .copy_from_slice(&sealed.local);
+        due.place_mut(1, Place::Tag).copy_from_slice(&sealed.tag);
+        due.place_mut(1, Place::Remote)
+            .copy_from_slice(&sealed.remote);
+        assert_eq!(volume.blank(1), Ok(()));
+        assert_eq!(volume, due);
+        assert_eq!(volume.plain(1), Ok((Verdict::Whole, vec![0; size])));
+        assert_eq!(volume.plain(0), Err(Refusal::Lost));
+    }
+}
+
+#[test]
+fn stages_write_one_place_each() {
+    let mut rng = Rng::new(31);
+    for size in [16, 48, 512] {
+        let mut volume = Volume::blanked(&mut rng, size, 4);
+        let zeros = vec![0; size];
+        let plaintext = rng.bytes(size);
+        let sealed = common::seal(&volume.key, 2, &plaintext);
+        let mut due = volume.clone();
+
+        // Out of turn, the later stages are refused.
+        assert_eq!(volume.second(2, &plaintext), Err(Refusal::WrongStage));
+        assert_eq!(volume.third(2, &plaintext), Err(Refusal::WrongStage));
+        assert_eq!(volume, due);
+
+        assert_eq!(volume.first(2, &plaintext), Ok(()));
+        due.place_mut(2, Place::Local)
+            .copy_from_slice(&sealed.local);
+        assert_eq!(volume, due);
+        let found = Ok((Verdict::Doubtful(Place::Local), zeros.clone()));
+        assert_eq!(volume.plain(2), found);
+        assert_eq!(volume.first(2, &plaintext), Err(Refusal::WrongStage));
+        assert_eq!(volume.third(2, &plaintext), Err(Refusal::WrongStage));
+        assert_eq!(volume.second(2, &zeros), Err(Refusal::WrongStage));
+        assert_eq!(volume, due);
+
+        assert_eq!(volume.second(2, &plaintext), Ok(()));
+        due.place_mut(2, Place::Tag).copy_from_slice(&sealed.tag);
+        assert_eq!(volume, due);
+        let found = Ok((Verdict::Doubtful(Place::Remote), plaintext.clone()));
+        assert_eq!(volume.plain(2), found);
+        assert_eq!(volume.first(2, &plaintext), Err(Refusal::WrongStage));
+        assert_eq!(volume.third(2, &zeros), Err(Refusal::WrongStage));
+
+        assert_eq!(volume.third(2, &plaintext), Ok(()));
+        due.place_mut(2, Place::Remote)
+            .copy_from_slice(&sealed.remote);
+        assert_eq!(volume, due);
+        assert_eq!(volume.plain(2), Ok((Verdict::Whole, plaintext.clone())));
+    }
+}
+
+#[test]
+fn mend_restores_the_doubtful_place() {
+    let mut rng = Rng::new(32);
+    for size in [16, 32, 4096] {
+        let volume = Volume::blanked(&mut rng, size, 2);
+        let mut same = volume.clone();
+        assert_eq!(same.mend(1), Ok(Verdict::Whole));
+        assert_eq!(same, volume);
+        for place in Place::ALL {
+            let mut damaged = volume.clone();
+            rng.fill(damaged.place_mut(1, place));
+            assert_eq!(damaged.mend(1), Ok(Verdict::Doubtful(place)));
+            assert_eq!(damaged, volume);
+        }
+    }
+}
+
+/// A volume of four sectors: whole, doubtful, clashing, lost.
+fn one_of_each(rng: &mut Rng) -> Volume {
+    let mut volume = Volume::blanked(rng, 32, 4);
+    volume.place_mut(1, Place::Tag)[3] ^= 4;
+    let h = u128::from_be_bytes(volume.key[..16].try_into().expect("16 bytes"));
+    let one = common::seal(&volume.key, 2, &to_bytes(&[h, 0]));
+    let other = common::seal(&volume.key, 2, &to_bytes(&[h, 1]));
+    volume
+        .place_mut(2, Place::Local)
+        .copy_from_slice(&one.local);
+    volume.place_mut(2, Place::Tag).copy_from_slice(&one.tag);
+    volume
+        .place_mut(2, Place::Remote)
+        .copy_from_slice(&other.remote);
+    rng.fill(volume.place_mut(3, Place::Local));
+    rng.fill(volume.place_mut(3, Place::Remote));
+    volume
+}
+
+#[test]
+fn read_and_mend_refuse_lost_and_clashing() {
+    let mut volume = one_of_each(&mut Rng::new(33));
+    let before = volume.clone();
+    for (number, refusal) in [(2, Refusal::Clashing), (3, Refusal::Lost)] {
+        let mut output = [FILL; 32];
+        assert_eq!(volume.read(number, &mut output), Err(refusal));
+        assert_eq!(output, [FILL; 32]);
+        assert_eq!(volume.mend(number), Err(refusal));
+        let plaintext = [0; 32];
+        assert_eq!(volume.first(number, &plaintext), Err(Refusal::WrongStage));
+    }
+    assert_eq!(volume, before);
+}
+
+#[test]
+fn survey_counts_and_lists() {
+    let mut volume = one_of_each(&mut Rng::new(34));
+    let mut list = [99; 6];
+    let due = Survey {
+        whole: 1,
+        doubtful: 1,
+        clashing: 1,
+        lost: 1,
+        health: 250,
+    };
+    assert_eq!(volume.survey(&mut list), Ok(due));
+    assert_eq!(list, [1, 2, 3, 99, 99, 99]);
+
+    let mut exact = [99; 4];
+    assert_eq!(volume.survey(&mut exact), Ok(due));
+    let mut short = [99; 3];
+    assert_eq!(volume.survey(&mut short), Err(Refusal::ShortList));
+    assert_eq!(short, [99; 3]);
+
+    for number in [2, 3] {
+        assert_eq!(volume.blank(number), Ok(()));
+    }
+    assert_eq!(volume.mend(1), Ok(Verdict::Doubtful(Place::Tag)));
+    let found = volume.survey(&mut list).expect("accepted");
+    assert_eq!((found.whole, found.health), (4, 1000));
+    assert_eq!(list, [1, 2, 3, 99, 99, 99]);
+}
+
+#[test]
+fn health_is_rounded_down() {
+    let mut rng = Rng::new(35);
+    let mut volume = Volume::random(&mut rng, 16, 3);
+    let mut list = [0; 3];
+    assert_eq!(volume.survey(&mut list).map(|s| s.health), Ok(0));
+    for (number, health) in [(0, 333), (2, 666), (1, 1000)] {
+        assert_eq!(volume.blank(number), Ok(()));
+        assert_eq!(volume.survey(&mut list).map(|s| s.health), Ok(health));
+    }
+}
+
+#[test]
+fn the_largest_volume() {
+    let mut rng = Rng::new(36);
+    let count = 65_536;
+    let mut volume = Volume::random(&mut rng, 16, count);
+    for number in [0, 1, 65_534, 65_535] {
+        assert_eq!(volume.blank(number), Ok(()));
+    }
+    assert_eq!(volume.blank(count), Err(Refusal::SectorNumber));
+    let mut list = vec![0; count];
+    let found = volume.survey(&mut list).expect("accepted");
+    assert_eq!((found.whole, found.lost, found.health), (4, 65_532, 0));
+    let due: Vec<u32> = (2..65_534).collect();
+    assert_eq!(list[..65_532], due);
+    let found = volume.survey(&mut list[..count - 1]);
+    assert_eq!(found, Err(Refusal::ShortList));
+}
+
+#[test]
+fn refusals_in_order() {
+    let mut rng = Rng::new(37);
+    let good = Volume::blanked(&mut rng, 32, 3);
+
+    let mut bad_key = good.clone();
+    for len in [0, 31, 33] {
+        bad_key.key = vec![1; len];
+        assert_eq!(bad_key.refusals(0, 32), [1; 6]);
+        assert_eq!(bad_key.survey(&mut [0; 3]), Err(Refusal::KeyLength));
+    }
+    bad_key.size = 15;
+    bad_key.count = 0;
+    assert_eq!(bad_key.refusals(9, 0), [1; 6]);
+
+    for size in [0, 15, 17, 4112] {
+        let mut bad_size = Volume::random(&mut rng, size, 3);
+        assert_eq!(bad_size.refusals(0, size), [2; 6]);
+        bad_size.count = 0;
+        assert_eq!(bad_size.refusals(9, 0), [2; 6]);
+        assert_eq!(bad_size.survey(&mut []), Err(Refusal::SectorSize));
+    }
+
+    for number in [3, 4, usize::MAX] {
+        assert_eq!(good.refusals(number, 31), [9; 6]);
+    }
+}
+
+#[test]
+fn refusal_8_on_count_and_images() {
+    let mut rng = Rng::new(38);
+    let good = Volume::blanked(&mut rng, 32, 3);
+    let mut bad = vec![
+        Volume::random(&mut rng, 32, 0),
+        Volume::random(&mut rng, 16, 65_537),
+    ];
+    for count in [0, 1, 2, 4, 65_537, usize::MAX] {
+        bad.push(Volume {
+            count,
+            ..good.clone()
+        });
+    }
+    for size in [16, 48] {
+        bad.push(Volume {
+            size,
+            ..good.clone()
+        });
+    }
+    for change in [-1isize, 1, 16, 32, -16, -32] {
+        for image in 0..3 {
+            let mut volume = good.clone();
+            let bytes = [&mut volume.local, &mut volume.tag, &mut volume.remote]
+                .into_iter()
+                .nth(image)
+                .expect("three images");
+            bytes.resize(bytes.len().saturating_add_signed(change), 0);
+            bad.push(volume);
+        }
+    }
+    for volume in bad {
+        assert_eq!(volume.refusals(usize::MAX, 31), [8; 6]);
+        assert_eq!(volume.refusals(0, 32), [8; 6]);
+        assert_eq!(volume.survey(&mut []), Err(Refusal::VolumeShape));
+    }
+}
+
+#[test]
+fn refusal_3_goes_before_6_7_and_10() {
+    let mut rng = Rng::new(39);
+    let volume = one_of_each(&mut rng);
+    for number in [1, 2, 3] {
+        for len in [0, 16, 31, 33, 48] {
+            let answers = volume.clone().refusals_without_blank_and_mend(number, len);
+            assert_eq!(answers, [3; 4]);
+        }
+    }
+}
+
+impl Volume {
+    /// The calls that take a plaintext or an output.
+    fn refusals_without_blank_and_mend(&mut self, number: usize, len: usize) -> [u8; 4] {
+        let before = self.clone();
+        let plaintext = vec![0; len];
+        let mut output = vec![FILL; len];
+        let answers = [
+            answer_number(&self.first(number, &plaintext)),
+            answer_number(&self.second(number, &plaintext)),
+            answer_number(&self.third(number, &plaintext)),
+            answer_number(&self.read(number, &mut output)),
+        ];
+        assert_eq!(*self, before);
+        assert_eq!(output, vec![FILL; len]);
+        answers
+    }
+}
