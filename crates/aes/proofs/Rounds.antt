@@ -3,14 +3,15 @@ use mathlib.Core.Path.{_≡_, sym, ap, ap₂, _∙_}
 use mathlib.Core.List.{List, [], _∷_, _++_}
 use Prim.Native.Nat.{ℕ, suc, _+_, _-_, _*_, _<_}
 use native.Mathlib.Omega.{arith}
+use lib.Bits.{xor-comm}
 use lib.ListN.{length, getD}
 use Rattle.block.specs.Bytes.{fromBytes, toBytes, xorBytes}
-use Rattle.block.proofs.Numbers.{to-from}
+use Rattle.block.proofs.Bits.{xor-assoc}
+use Rattle.block.proofs.Numbers.{to-from, toBytes-xor}
 use Rattle.aes.specs.declared.Columns.{Columns}
 use Rattle.aes.specs.Aes.{_⊕_, sBox, sBoxTable, subBytes, shiftRows, mixColumn, mixColumns, addRoundKey, rounds, rotate}
 use Rattle.aes.specs.Columns.{stateOf, sub, lastColumn, roundColumn, EachColumn, mixRows, roundTable}
 use Rattle.aes.proofs.Bytes.{length-tabulate, tabulate-at, double-lt, triple-lt, sBox-lt}
-use Rattle.block.proofs.Numbers.{toBytes-xor}
 
 -- ---- what stands in the table
 
@@ -43,29 +44,39 @@ last-column a b c d p q r s ep eq er es =
     ∙ to-from (lastColumn a b c d) (sBox-lt _, (sBox-lt _, (sBox-lt _, (sBox-lt _, tt))))
 
 -- four entries, each in its row, add up to the mixed column
-pub four-entries : (a b c d x y z u : ℕ)
+four-entries : (a b c d x y z u : ℕ)
     → toBytes 4 x ≡ mixRows a → toBytes 4 y ≡ rotate 3 (mixRows b) → toBytes 4 z ≡ rotate 2 (mixRows c) → toBytes 4 u ≡ rotate 1 (mixRows d)
     → toBytes 4 (x ⊕ y ⊕ z ⊕ u) ≡ mixColumn a b c d
 four-entries a b c d x y z u ex ey ez eu =
     toBytes-xor 4 (x ⊕ y ⊕ z) u
     ∙ ap₂ xorBytes (toBytes-xor 4 (x ⊕ y) z ∙ ap₂ xorBytes (toBytes-xor 4 x y ∙ ap₂ xorBytes ex ey) ez) eu
 
+-- and so they do when the key's word is added before them
+pub round-column : (k a b c d x y z u : ℕ)
+    → toBytes 4 x ≡ mixRows a → toBytes 4 y ≡ rotate 3 (mixRows b) → toBytes 4 z ≡ rotate 2 (mixRows c) → toBytes 4 u ≡ rotate 1 (mixRows d)
+    → toBytes 4 (k ⊕ x ⊕ y ⊕ z ⊕ u) ≡ xorBytes (mixColumn a b c d) (toBytes 4 k)
+round-column k a b c d x y z u ex ey ez eu =
+    ap (toBytes 4) (ap (λ (v : ℕ). v ⊕ u) (ap (λ (v : ℕ). v ⊕ z) (xor-assoc k x y) ∙ xor-assoc k (x ⊕ y) z) ∙ xor-assoc k (x ⊕ y ⊕ z) u ∙ xor-comm k (x ⊕ y ⊕ z ⊕ u))
+    ∙ toBytes-xor 4 (x ⊕ y ⊕ z ⊕ u) k
+    ∙ ap (λ (l : List ℕ). xorBytes l (toBytes 4 k)) (four-entries a b c d x y z u ex ey ez eu)
+
 -- ---- the state, column by column
 
 module _ (s r : Columns) where
-  each-column : (f : ℕ → ℕ → ℕ → ℕ → List ℕ) → EachColumn f s r
+  each-column : (f : ℕ → ℕ → ℕ → ℕ → ℕ → List ℕ) → EachColumn f s r
       → stateOf r
-      ≡ f (s .c0) (s .c1) (s .c2) (s .c3) ++ f (s .c1) (s .c2) (s .c3) (s .c0) ++ f (s .c2) (s .c3) (s .c0) (s .c1) ++ f (s .c3) (s .c0) (s .c1) (s .c2)
+      ≡ f 0 (s .c0) (s .c1) (s .c2) (s .c3) ++ f 1 (s .c1) (s .c2) (s .c3) (s .c0) ++ f 2 (s .c2) (s .c3) (s .c0) (s .c1) ++ f 3 (s .c3) (s .c0) (s .c1) (s .c2)
   unfolding stateOf
   each-column f e = λ i. e .0 i ++ e .1 i ++ e .2 i ++ e .3 i
 
-  pub last-state : EachColumn lastColumn s r → stateOf r ≡ shiftRows (subBytes (stateOf s))
+  pub last-state : EachColumn (λ _. lastColumn) s r → stateOf r ≡ shiftRows (subBytes (stateOf s))
   unfolding stateOf lastColumn shiftRows subBytes toBytes
-  last-state e = each-column lastColumn e
+  last-state e = each-column (λ _. lastColumn) e
 
-  pub round-state : EachColumn roundColumn s r → stateOf r ≡ mixColumns (shiftRows (subBytes (stateOf s)))
-  unfolding stateOf roundColumn mixColumns shiftRows subBytes toBytes
-  round-state e = each-column roundColumn e
+  pub round-state : (w : List ℕ) (n : ℕ) → EachColumn (λ i. roundColumn (getD w (4 * n + i) 0)) s r
+      → stateOf r ≡ addRoundKey w n (mixColumns (shiftRows (subBytes (stateOf s))))
+  unfolding stateOf roundColumn addRoundKey mixColumns shiftRows subBytes toBytes
+  round-state w n e = each-column (λ i. roundColumn (getD w (4 * n + i) 0)) e
 
 pub key-state : (w : List ℕ) (n : ℕ) (s : Columns)
     → stateOf (record { c0 = s .c0 ⊕ getD w (4 * n + 0) 0; c1 = s .c1 ⊕ getD w (4 * n + 1) 0; c2 = s .c2 ⊕ getD w (4 * n + 2) 0; c3 = s .c3 ⊕ getD w (4 * n + 3) 0 })

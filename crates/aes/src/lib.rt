@@ -3,7 +3,7 @@ use block::Block;
 ghost use mathlib.Core.Path.{_≡_};
 ghost use mathlib.Core.List.{[], _∷_};
 ghost use Prim.Native.Nat.{_+_, _-_, _*_, _/_, _%_, _<_, _≤_};
-ghost use lib.ListN.{length, take};
+ghost use lib.ListN.{length, getD, take};
 ghost use Rattle.block.specs.Bytes.{fromBytes, toBytes, part};
 ghost use Rattle.block.specs.Value.{value};
 ghost use Rattle.aes.specs.Aes as FIPS;
@@ -121,12 +121,14 @@ fn last_column(t: &Table, a: u32, b: u32, c: u32, d: u32) -> u32
     )
 }
 
-// The same after MixColumns too (5.1.3): each row adds one entry of the table, rotated to that row.
-fn round_column(t: &Table, a: u32, b: u32, c: u32, d: u32) -> u32
+// The same after MixColumns and AddRoundKey too (5.1.3 and 5.1.4), where k is its word of the round key: each row adds one
+// entry of the table, rotated to that row. k comes first since it waits for no look-up.
+fn round_column(t: &Table, k: u32, a: u32, b: u32, c: u32, d: u32) -> u32
     requires { ⌜ now t ≡ roundTable ⌝ }
-    ensures { λ r. ⌜ toBytes 4 r ≡ roundColumn a b c d ⌝ }
+    ensures { λ r. ⌜ toBytes 4 r ≡ roundColumn k a b c d ⌝ }
 {
-    look_up(t, a, 0)
+    k
+        ^ look_up(t, a, 0)
         ^ rotate_right(look_up(t, b, 1), 1)
         ^ rotate_right(look_up(t, c, 2), 2)
         ^ rotate_right(look_up(t, d, 3), 3)
@@ -135,7 +137,7 @@ fn round_column(t: &Table, a: u32, b: u32, c: u32, d: u32) -> u32
 // The last round but for its AddRoundKey.
 fn last_round(t: &Table, s: Columns) -> Columns
     requires { ⌜ now t ≡ roundTable ⌝ }
-    ensures { λ r. ⌜ EachColumn lastColumn s r ⌝ }
+    ensures { λ r. ⌜ EachColumn (λ _. lastColumn) s r ⌝ }
 {
     Columns {
         c0: last_column(t, s.c0, s.c1, s.c2, s.c3),
@@ -145,16 +147,17 @@ fn last_round(t: &Table, s: Columns) -> Columns
     }
 }
 
-// Any other round but for its AddRoundKey.
-fn round(t: &Table, s: Columns) -> Columns
-    requires { ⌜ now t ≡ roundTable ⌝ }
-    ensures { λ r. ⌜ EachColumn roundColumn s r ⌝ }
+// Any other round, with round key n.
+fn round(t: &Table, w: &[u32], n: usize, s: Columns) -> Columns
+    requires { ⌜ (now t ≡ roundTable) × (4 * n + 4 ≤ length (now w)) ⌝ }
+    ensures { λ r. ⌜ EachColumn (λ i. roundColumn (getD (now (w .entry)) (4 * n + i) 0)) s r ⌝ }
 {
+    let at = 4 * n;
     Columns {
-        c0: round_column(t, s.c0, s.c1, s.c2, s.c3),
-        c1: round_column(t, s.c1, s.c2, s.c3, s.c0),
-        c2: round_column(t, s.c2, s.c3, s.c0, s.c1),
-        c3: round_column(t, s.c3, s.c0, s.c1, s.c2),
+        c0: round_column(t, w[at + 0], s.c0, s.c1, s.c2, s.c3),
+        c1: round_column(t, w[at + 1], s.c1, s.c2, s.c3, s.c0),
+        c2: round_column(t, w[at + 2], s.c2, s.c3, s.c0, s.c1),
+        c3: round_column(t, w[at + 3], s.c3, s.c0, s.c1, s.c2),
     }
 }
 
@@ -181,7 +184,7 @@ fn cipher(t: &Table, w: &[u32], s: Columns) -> Columns
     let mut u = add_round_key(w, 0, s);
     let mut n = 1usize;
     while n < nr {
-        let v = add_round_key(w, n, round(t, u));
+        let v = round(t, w, n, u);
         u = v;
         n += 1;
     }

@@ -26,10 +26,7 @@ unfolding rounds
 loop-holds c = (omega arith, omega arith, refl)
 
 round-requires : tie.Need-round-requires Inv-loop μ-loop
-round-requires c κs = search needs
-
-add-round-key-requires-2 : tie.Need-add-round-key-requires-2 Inv-loop μ-loop
-add-round-key-requires-2 c κs = omega arith
+round-requires c κs = (search needs, omega arith)
 
 add-n : tie.Need-add-n Inv-loop μ-loop
 add-n c = omega arith
@@ -39,21 +36,20 @@ loop-less c = omega arith
 
 loop-again : tie.Need-loop-again Inv-loop μ-loop
 loop-again c =
-    let l = c .before .before .before .loop in
-    let w = c .before .before .before .before .before .before .args .w .now in (
+    let l = c .before .before .loop in
+    let w = c .before .before .before .before .before .args .w .now in (
       omega arith,
       omega arith,
-      c .add-round-key2 .ensures
-          ∙ ap (addRoundKey w (l .n))
-          (round-state (l .u) _ (c .before .round .ensures) ∙ ap (λ (s : List ℕ). mixColumns (shiftRows (subBytes s))) (l .inv .2))
+      round-state (l .u) _ w (l .n) (c .round .ensures)
+          ∙ ap (λ (s : List ℕ). addRoundKey w (l .n) (mixColumns (shiftRows (subBytes s)))) (l .inv .2)
           ∙ rounds-next w _ (l .n) (l .inv .0),
     )
 
 last-round-requires : tie.Need-last-round-requires Inv-loop μ-loop
 last-round-requires c κs = search needs
 
-add-round-key-requires-3 : tie.Need-add-round-key-requires-3 Inv-loop μ-loop
-add-round-key-requires-3 c κs = omega arith
+add-round-key-requires-2 : tie.Need-add-round-key-requires-2 Inv-loop μ-loop
+add-round-key-requires-2 c κs = omega arith
 
 returns : tie.Need-returns Inv-loop μ-loop
 unfolding cipher
@@ -62,7 +58,7 @@ returns c =
     let l = at-loop .loop in
     let w = at-loop .before .before .before .args .w .now in
     let e : l .n - 1 ≡ roundsOf w - 1 = omega arith in
-    c .add-round-key3 .ensures
+    c .add-round-key2 .ensures
     ∙ ap (addRoundKey w (roundsOf w))
     (last-state (l .u) _ (c .before .last-round .ensures)
     ∙ ap (λ (s : List ℕ). shiftRows (subBytes s))
@@ -78,10 +74,9 @@ cipher-spec =
     add-round-key-requires
     loop-holds
     round-requires
-    add-round-key-requires-2
     add-n
     loop-less
     loop-again
     last-round-requires
-    add-round-key-requires-3
+    add-round-key-requires-2
     returns)

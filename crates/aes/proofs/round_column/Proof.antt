@@ -1,7 +1,7 @@
 use mathlib.Core.Path.{ap, _∙_}
 use Rattle.aes.specs.Aes.{rotate}
 use Rattle.aes.specs.Columns.{roundColumn}
-use Rattle.aes.proofs.Rounds.{four-entries}
+use Rattle.aes.proofs.Rounds.{round-column}
 use borrow.Author.Needs.{needs}
 use Rattle.aes.proofs.round_column.Statement.{statement}
 use Rattle.aes.proofs.round_column.Tie as tie
@@ -32,7 +32,7 @@ unfolding roundColumn
 returns c =
     let l3 = c .before .before .before in
     let l2 = l3 .before .before in
-    four-entries _ _ _ _ _ _ _ _
+    round-column _ _ _ _ _ _ _ _ _
     (l2 .before .look-up .ensures)
     (l3 .before .rotate-right .ensures ∙ ap (rotate 3) (l2 .look-up2 .ensures))
     (c .before .before .rotate-right2 .ensures ∙ ap (rotate 2) (l3 .look-up3 .ensures))
