@@ -20,6 +20,10 @@ fn refusal_number(r: Refusal) -> u32
         Refusal::NoneFits => 5,
         Refusal::Lost => 6,
         Refusal::Clashing => 7,
+        Refusal::VolumeShape => 8,
+        Refusal::SectorNumber => 9,
+        Refusal::StageOrder => 10,
+        Refusal::ListLength => 11,
     }
 }
 

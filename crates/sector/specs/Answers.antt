@@ -8,7 +8,7 @@ use Rattle.mode.specs.Scheme as M
 use Rattle.sector.specs.declared.Place.{Place}
 use Rattle.sector.specs.declared.Place.the-variants.{Local, Tag, Remote}
 use Rattle.sector.specs.declared.Refusal.{Refusal}
-use Rattle.sector.specs.declared.Refusal.the-variants.{KeyLength, SectorSize, OtherLength, UnknownSide, NoneFits, Lost, Clashing}
+use Rattle.sector.specs.declared.Refusal.the-variants.{KeyLength, SectorSize, OtherLength, UnknownSide, NoneFits, Lost, Clashing, VolumeShape, SectorNumber, StageOrder, ListLength}
 use Rattle.sector.specs.declared.Judged.{Judged}
 use Rattle.sector.specs.declared.Judged.the-variants as J
 use Rattle.sector.specs.declared.Done.{Done}
@@ -51,6 +51,10 @@ refusalNumber UnknownSide = 4
 refusalNumber NoneFits = 5
 refusalNumber Lost = 6
 refusalNumber Clashing = 7
+refusalNumber VolumeShape = 8
+refusalNumber SectorNumber = 9
+refusalNumber StageOrder = 10
+refusalNumber ListLength = 11
 
 abbrev pub placeNumber : Place → ℕ
 placeNumber Local = 0x81

@@ -26,7 +26,7 @@ pub enum Place {
     Remote,
 }
 
-// Document 01's refusals of a sector, from 1 on.
+// Document 01's refusals, from 1 on. Those from 8 on are a volume's.
 pub enum Refusal {
     KeyLength,
     SectorSize,
@@ -35,6 +35,10 @@ pub enum Refusal {
     NoneFits,
     Lost,
     Clashing,
+    VolumeShape,
+    SectorNumber,
+    StageOrder,
+    ListLength,
 }
 
 // What judging answers.

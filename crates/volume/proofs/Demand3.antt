@@ -1,0 +1,32 @@
+-- Demand 3 for the mode. Assumes nothing.
+use Rattle.mode.specs.Scheme.{Lawful, Sound, scheme}
+use Rattle.mode.specs.Sealing.{tweak}
+use Rattle.mode.proofs.Laws.{sound}
+use Rattle.volume.specs.History.{Demand3}
+use Rattle.volume.specs.Volume.{mirror}
+use Rattle.volume.proofs.History.{history-from, history, history-any}
+
+-- an address is one tweak among others
+pub mirror-sound : Sound mirror
+unfolding mirror
+mirror-sound = record {
+  lawful = λ k s ek es.
+      let L : Lawful s (scheme k) = sound .lawful k s ek es in
+      record {
+        shape = λ a P p. L .shape (tweak a) P p;
+        left = λ a P p. L .left (tweak a) P p;
+        right = λ a P p. L .right (tweak a) P p;
+        onto-left = λ a g x p q e. L .onto-left (tweak a) g x p q e;
+        onto-right = λ a g x p q e. L .onto-right (tweak a) g x p q e;
+        sum = λ a P p. L .sum (tweak a) P p;
+        plain-local = L .plain-local;
+        plain-remote = L .plain-remote;
+      };
+}
+
+pub demand-3 : Demand3
+demand-3 = record {
+  from-agreeing = history-from mirror mirror-sound;
+  from-gone = history mirror mirror-sound;
+  from-any-lengths = history-any mirror mirror-sound;
+}

@@ -1,0 +1,108 @@
+-- Each event keeps what the machine holds in agreement with the images. Assumes nothing but the laws of the sealing.
+use mathlib.Core.Path.{_≡_, refl, sym, ap, subst}
+use mathlib.Core.Bool.{Bool, cond}
+use mathlib.Core.List.{List, [], _∷_}
+use mathlib.Core.Option.{Option, none, some}
+use Prim.Native.Nat.{ℕ, _<_}
+use native.Mathlib.Decide.{ℕ-discrete}
+use borrow.Author.Tests.{eq-eqb, ne-eqb}
+use Rattle.mode.specs.Sealing.{Triple, Key}
+use Rattle.mode.specs.Scheme.{Place, Scheme, Sound}
+use Rattle.volume.specs.Volume.{sectorOf, write, Args, Call, sector, sealing, refusal}
+use Rattle.volume.specs.Machine.{Fate, Event, call, damage, called, turned, told, Held, step, hurt, State, put, machine, Volume, Takes, Images, Lent, Cuts, leavesCall, leaves, seen, Allowed, AllAllowed, run, hold}
+use Rattle.volume.specs.History.{at, own, Agree, AnyBytes, Agrees}
+use Rattle.volume.proofs.Refusals.{accepted-passed}
+use Rattle.volume.proofs.Sector.{keeps-hurt}
+use Rattle.volume.proofs.Images.{any-bytes, images-write, sector-write, sector-other, leaves-refused, left, held-after}
+
+-- ---- the state
+
+pub put-same : (i : ℕ) (x : Held) (h : State) → put i x h i ≡ x
+unfolding put
+put-same i x h = ap (λ (u : Bool). cond u x (h i)) (eq-eqb i i refl)
+
+pub put-other : (i : ℕ) (x : Held) (h : State) (j : ℕ) → (j ≡ i → ⊥) → put i x h j ≡ h j
+unfolding put
+put-other i x h j n = ap (λ (u : Bool). cond u x (h j)) (ne-eqb j i n)
+
+-- ---- arguments
+
+-- those of a, with the volume's key, s and n and the number i
+abbrev pub args : Volume → Args → ℕ → Args
+args vol a i = record { key = vol .key; size = vol .size; count = vol .count; number = i }
+
+pub takes-args : (vol : Volume) (a : Args) → Takes vol a → a ≡ args vol a (a .number)
+takes-args vol a k = λ j. record { key = k .key j; size = k .size j; count = k .count j; number = a .number }
+
+-- ---- calls
+
+module _ (seals : Key → Scheme) (vol : Volume) (v : Triple) (h : State) (a : Args) (c : Call) (f : Fate) where
+  pub machine-accepted : refusal seals v a c ≡ none → machine h (seen seals vol v (call a c f)) ≡ put (a .number) (step (a .size) c (told (sealing seals a) (a .number) (sector (leavesCall seals v a c f) a) c f) (h (a .number))) h
+  machine-accepted e = ap (λ (r : Option ℕ). machine h (called a c (turned r) (told (sealing seals a) (a .number) (sector (leavesCall seals v a c f) a) c f))) e
+
+  pub machine-refused : (k : ℕ) → refusal seals v a c ≡ some k → machine h (seen seals vol v (call a c f)) ≡ h
+  machine-refused k e = ap (λ (r : Option ℕ). machine h (called a c (turned r) (told (sealing seals a) (a .number) (sector (leavesCall seals v a c f) a) c f))) e
+
+module _ (seals : Key → Scheme) (sound : Sound seals) (vol : Volume) where
+  -- one sector changes, and what is held of it
+  agrees-put : (v w : Triple) (h : State) (i : ℕ) (x : Held) → Agrees seals vol v h → Images (vol .size) (vol .count) w
+      → Agree (vol .size) (own seals vol) i (at vol w i) x
+      → ((j : ℕ) → (j ≡ i → ⊥) → at vol w j ≡ at vol v j)
+      → Agrees seals vol w (put i x h)
+  agrees-put v w h i x g I mine others = record { images = I; agree = λ j lt. go j lt (ℕ-discrete j i) }
+    where
+      go : (j : ℕ) → j < vol .count → Dec (j ≡ i) → Agree (vol .size) (own seals vol) j (at vol w j) (put i x h j)
+      go j lt (yes e) =
+          subst (λ (k : ℕ). Agree (vol .size) (own seals vol) k (at vol w k) (put i x h k)) (sym e)
+          (subst (λ (y : Held). Agree (vol .size) (own seals vol) i (at vol w i) y) (sym (put-same i x h)) mine)
+      go j lt (no n) =
+          subst (λ (y : Held). Agree (vol .size) (own seals vol) j (at vol w j) y) (sym (put-other i x h j n))
+          (subst (λ (t : Triple). Agree (vol .size) (own seals vol) j t (h j)) (sym (others j n)) (g .agree j lt))
+
+  accepted-step : (v : Triple) (h : State) → Agrees seals vol v h → (a : Args) (i : ℕ) (c : Call) (f : Fate) → refusal seals v (args vol a i) c ≡ none → Lent c → Cuts (vol .size) f
+      → Agrees seals vol (leavesCall seals v (args vol a i) c f) (machine h (seen seals vol v (call (args vol a i) c f)))
+  accepted-step v h g a i c f e l k =
+      let b : AnyBytes v = any-bytes (vol .size) (vol .count) v (g .images) in
+      let z = left seals sound v b (args vol a i) c f l k e in
+      let lt : i < vol .count = accepted-passed seals v (args vol a i) c e .common .number in
+      subst (λ (y : State). Agrees seals vol (leavesCall seals v (args vol a i) c f) y) (sym (machine-accepted seals vol v h (args vol a i) c f e))
+      (agrees-put v (leavesCall seals v (args vol a i) c f) h i _ g (z .images)
+      (held-after seals sound v b (args vol a i) c f l k e (h i) (g .agree i lt)) (z .others))
+
+  call-step : (v : Triple) (h : State) → Agrees seals vol v h → (a : Args) (c : Call) (f : Fate) → Allowed seals vol v (call a c f) → (r : Option ℕ) → refusal seals v a c ≡ r
+      → Agrees seals vol (leavesCall seals v a c f) (machine h (seen seals vol v (call a c f)))
+  call-step v h g a c f m none e =
+      subst (λ (b : Args). refusal seals v b c ≡ none → Agrees seals vol (leavesCall seals v b c f) (machine h (seen seals vol v (call b c f))))
+      (sym (takes-args vol a (m .0 e))) (λ z. accepted-step v h g a (a .number) c f z (m .1) (m .2)) e
+  call-step v h g a c f m (some k) e =
+      subst (λ (w : Triple). Agrees seals vol w (machine h (seen seals vol v (call a c f)))) (sym (leaves-refused seals v a c f k e))
+      (subst (λ (y : State). Agrees seals vol v y) (sym (machine-refused seals vol v h a c f k e)) g)
+
+  damage-step : (v : Triple) (h : State) → Agrees seals vol v h → (p : Place) (i : ℕ) (b : List ℕ) → Allowed seals vol v (damage p i b) → Agrees seals vol (write (vol .size) i p b v) (put i (hurt p (h i)) h)
+  damage-step v h g p i b m =
+      agrees-put v (write (vol .size) i p b v) h i (hurt p (h i)) g
+      (images-write (vol .size) (vol .count) i (m .0) p b (m .1) v (g .images))
+      (subst (λ (u : Triple). Agree (vol .size) (own seals vol) i u (hurt p (h i))) (sym (sector-write (vol .size) (vol .count) i (m .0) p b (m .1) v (g .images)))
+      (keeps-hurt (vol .size) (own seals vol) i (at vol v i) p b (h i) (g .agree i (m .0))))
+      (λ j n. sector-other (vol .size) (vol .count) i (m .0) p b (m .1) v (g .images) j n)
+
+  -- every event keeps it,
+  pub event-step : (v : Triple) (h : State) → Agrees seals vol v h → (e : Event) → Allowed seals vol v e → Agrees seals vol (leaves seals vol v e) (machine h (seen seals vol v e))
+  event-step v h g (call a c f) m = call-step v h g a c f m (refusal seals v a c) refl
+  event-step v h g (damage p i b) m = damage-step v h g p i b m
+
+  -- and so does every list of events.
+  pub list-step : (es : List Event) (v : Triple) (h : State) → Agrees seals vol v h → AllAllowed seals vol v es → Agrees seals vol (run seals vol v es) (hold seals vol v h es)
+  list-step [] v h g m = g
+  list-step (e ∷ es) v h g m = list-step es (leaves seals vol v e) (machine h (seen seals vol v e)) (event-step v h g e (m .0)) (m .1)
+
+  -- a call changes no sector but the one that it names
+  pub call-others : (v : Triple) → AnyBytes v → (a : Args) (c : Call) (f : Fate) → Allowed seals vol v (call a c f) → (j : ℕ) → (j ≡ a .number → ⊥) → at vol (leavesCall seals v a c f) j ≡ at vol v j
+  call-others v b a c f m j n = go (refusal seals v a c) refl
+    where
+      go : (r : Option ℕ) → refusal seals v a c ≡ r → at vol (leavesCall seals v a c f) j ≡ at vol v j
+      go none e =
+          let s : a .size ≡ vol .size = m .0 e .size in
+          subst (λ (k : ℕ). sectorOf k j (leavesCall seals v a c f) ≡ sectorOf k j v) s
+          (left seals sound v b a c f (m .1) (subst (λ (k : ℕ). Cuts k f) (sym s) (m .2)) e .others j n)
+      go (some k) e = ap (λ (u : Triple). at vol u j) (leaves-refused seals v a c f k e)

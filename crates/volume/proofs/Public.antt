@@ -1,0 +1,168 @@
+-- The calls' outcomes where the early checks refuse, and where they pass. Assumes nothing.
+use mathlib.Core.Path.{_≡_, refl, sym, ap, ap₂, _∙_}
+use mathlib.Core.Bool.{Bool, true, false, not, _&&_}
+use mathlib.Core.List.{List, [], _∷_}
+use mathlib.Core.Option.{Option, none, some}
+use Prim.Native.Nat.{ℕ, zero, suc, _+_, _*_, _<_, _≤_, _%_}
+use native.Mathlib.Nat.{suc-mul, mul-le-mul-right, le-of-suc-le-suc}
+use mathlib.Core.Path.{subst}
+use native.Mathlib.Omega.{arith}
+use lib.Dec.{eqb, leb}
+use lib.ListN.{length, take, replicate}
+use borrow.Author.Tests.{eqb-true, leb-true}
+use Rattle.block.specs.Bytes.{patch}
+use Rattle.block.proofs.Lists.{and-left, and-right}
+use Rattle.mode.specs.Scheme.{local, tag, remote, on, isKey, isSize, Scheme}
+use Rattle.mode.specs.Sealing.{Key, Triple}
+use Rattle.sector.specs.Answers.{rule, firstOf}
+use Rattle.sector.specs.Calls.{verdictOutcome}
+use Rattle.sector.specs.Verdict.{Verdict, whole, doubtful, lost, clashing, fits, judge}
+use Rattle.volume.specs.Answers.{Answer, done, reply, isWhole, isLost, isClashing, unjudged, judgeAnswer, answerNumber, output}
+use Rattle.volume.specs.Lent.{Within, stage, firstOutcome, secondOutcome, thirdOutcome, mendOutcome}
+use Rattle.volume.specs.Volume.{store, writeAll, Args, Call, blank, first, second, third, mend, read, shape, isShape, lengthRules, lengths, early, mends, writes, mendAnswer, result, unless, sector, refusal, after, mirror, outcome, readOutcome}
+use Rattle.volume.proofs.Images.{after-accepted, after-refused}
+use Rattle.volume.proofs.Refusals.{passed, long-3, shape-facts, refusal-late, answer-accepted, answer-refused, answer-late, early-answer, refusal-early}
+
+-- ---- ranges
+
+part-end : (w n i : ℕ) → i < n → i * w + w ≤ n * w
+part-end w n i h = subst (λ (m : ℕ). m ≤ n * w) (suc-mul i w) (mul-le-mul-right w h)
+
+count-le : (s n : ℕ) (v : Triple) → isShape s n v ≡ true → n ≤ 65536
+unfolding isShape shape
+count-le s n v e = leb-true n 65536 (and-left (leb n 65536) _ (and-right (leb 1 n) _ e))
+
+size-facts : (s : ℕ) → isSize s ≡ true → (s % 16 ≡ 0) × (s ≤ 4096)
+unfolding isSize
+size-facts s e =
+    let u = and-right (leb 16 s) (leb s 4096 && eqb (s % 16) 0) e in
+    (eqb-true (s % 16) 0 (and-right (leb s 4096) (eqb (s % 16) 0) u), leb-true s 4096 (and-left (leb s 4096) (eqb (s % 16) 0) u))
+
+key-size : (k : Key) → isKey k ≡ true → length (k .bytes) ≡ 32
+unfolding isKey
+key-size k e = eqb-true (length (k .bytes)) 32 e
+
+-- what passing the early checks shows
+pub within : (v : Triple) (a : Args) (c : Call) → firstOf (early v a c) ≡ none
+    → (length (a .key .bytes) ≡ 32) × Within (a .size) (a .number) (length (v .local)) (length (v .tag)) (length (v .remote))
+within v a c e =
+    let o = passed v a c e .common in
+    let f = shape-facts (a .size) (a .count) v (o .shape) .1 in
+    let n = count-le (a .size) (a .count) v (o .shape) in
+    let l = f local in
+    let g = f tag in
+    let r = f remote in
+    let z = size-facts (a .size) (o .size) in
+    let h = o .number in
+    let p = part-end (a .size) (a .count) (a .number) h in
+    let q = part-end 16 (a .count) (a .number) h in
+    (key-size (a .key) (o .key), record { blocks = z .0; most = z .1; number = omega arith; local-end = omega arith; tag-end = omega arith; remote-end = omega arith })
+
+-- the same for a call with a plaintext or an output of p bytes, which is then s
+pub with-length : (v : Triple) (a : Args) (c : Call) (p : ℕ) → firstOf (lengthRules p (a .size)) ≡ firstOf (lengths a c) → firstOf (early v a c) ≡ none → p ≡ a .size
+with-length v a c p d e = long-3 p (a .size) (d ∙ passed v a c e .lengths)
+
+pub within-length : (v : Triple) (a : Args) (c : Call) (p : ℕ) → p ≡ a .size → firstOf (early v a c) ≡ none
+    → (length (a .key .bytes) ≡ 32) × Within p (a .number) (length (v .local)) (length (v .tag)) (length (v .remote))
+within-length v a c p d e =
+    let w = within v a c e in (w .0, subst (λ (n : ℕ). Within n (a .number) (length (v .local)) (length (v .tag)) (length (v .remote))) (sym d) (w .1))
+
+take-zeros : (s n : ℕ) → s ≤ n → take {A = ℕ} s (replicate n 0) ≡ replicate s 0
+take-zeros zero n h = refl
+take-zeros (suc s) zero h = absurd (omega arith)
+take-zeros (suc s) (suc n) h = ap (λ (l : List ℕ). 0 ∷ l) (take-zeros s n (le-of-suc-le-suc h))
+
+pub zeros-are : (s : ℕ) → s ≤ 4096 → take {A = ℕ} s (replicate 4096 0) ≡ replicate s 0
+zeros-are s h = take-zeros s 4096 h
+
+module _ (v : Triple) (a : Args) where
+  abbrev S : Scheme
+  S = mirror (a .key)
+
+  abbrev i : ℕ
+  i = a .number
+
+  -- refused
+  pub outcome-refused : (c : Call) {n : ℕ} → refusal mirror v a c ≡ some n → outcome v a c ≡ (n, v)
+  unfolding outcome
+  outcome-refused c {n} e = ap₂ (λ (r : Answer) (w : Triple). (answerNumber r, w)) (answer-refused mirror v a c n e) (after-refused mirror v a c n e)
+
+  pub early-refused : (c : Call) {n : ℕ} → firstOf (early v a c) ≡ some n → outcome v a c ≡ (n, v)
+  early-refused c {n} e = outcome-refused c (refusal-early mirror v a c n e)
+
+  -- accepted
+  outcome-accepted : (c : Call) {w : Triple} → refusal mirror v a c ≡ none → result S i (sector v a) c ≡ done
+      → writeAll (a .size) i (on (S .sealed i (writes (a .size) S i (sector v a) c .plain))) (writes (a .size) S i (sector v a) c .places) v ≡ w → outcome v a c ≡ (0, w)
+  unfolding outcome
+  outcome-accepted c e d ew = ap₂ (λ (r : Answer) (u : Triple). (answerNumber r, u)) (answer-accepted mirror v a c e ∙ d) (after-accepted mirror v a c e ∙ ew)
+
+  -- ---- stages: one image changes
+
+  -- the refusal 10 unless x holds
+  ten : (c : Call) (x : Bool) (new old : List ℕ) (put : List ℕ → Triple) → put old ≡ v
+      → refusal mirror v a c ≡ firstOf (rule 10 (not x) ∷ []) → result S i (sector v a) c ≡ done
+      → writeAll (a .size) i (on (S .sealed i (writes (a .size) S i (sector v a) c .plain))) (writes (a .size) S i (sector v a) c .places) v ≡ put new
+      → outcome v a c ≡ (stage x new old .0, put (stage x new old .1))
+  ten c true new old put eo r d w = outcome-accepted c r d w
+  ten c false new old put eo r d w = outcome-refused c r ∙ ap (λ (u : Triple). (10, u)) (sym eo)
+
+  module _ (P : List ℕ) where
+    pub first-passes : firstOf (early v a (first P)) ≡ none → {n : ℕ} {l : List ℕ}
+        → firstOutcome S i (a .size) i P (v .local) (v .tag) (v .remote) ≡ (n, l) → outcome v a (first P) ≡ (n, store local l v)
+    first-passes e x =
+        ten (first P) (isWhole (judge S i (sector v a))) (patch (a .size) i (S .sealed i P .local) (v .local)) (v .local) (λ l. store local l v) refl (refusal-late mirror v a (first P) e) refl refl
+        ∙ ap (λ (y : ℕ × List ℕ). (y .0, store local (y .1) v)) x
+
+    pub second-passes : firstOf (early v a (second P)) ≡ none → {n : ℕ} {g : List ℕ}
+        → secondOutcome S i (a .size) i P (v .local) (v .tag) (v .remote) ≡ (n, g) → outcome v a (second P) ≡ (n, store tag g v)
+    second-passes e x =
+        ten (second P) (fits S i (sector v a) local P) (patch 16 i (S .sealed i P .tag) (v .tag)) (v .tag) (λ g. store tag g v) refl (refusal-late mirror v a (second P) e) refl refl
+        ∙ ap (λ (y : ℕ × List ℕ). (y .0, store tag (y .1) v)) x
+
+    pub third-passes : firstOf (early v a (third P)) ≡ none → {n : ℕ} {r : List ℕ}
+        → thirdOutcome S i (a .size) i P (v .local) (v .tag) (v .remote) ≡ (n, r) → outcome v a (third P) ≡ (n, store remote r v)
+    third-passes e x =
+        ten (third P) (fits S i (sector v a) local P && fits S i (sector v a) tag P) (patch (a .size) i (S .sealed i P .remote) (v .remote)) (v .remote) (λ r. store remote r v) refl (refusal-late mirror v a (third P) e) refl refl
+        ∙ ap (λ (y : ℕ × List ℕ). (y .0, store remote (y .1) v)) x
+
+  -- ---- blank
+
+  pub blank-passes : firstOf (early v a blank) ≡ none → (z : List ℕ) → z ≡ replicate (a .size) 0 → {w : Triple}
+      → w ≡ writeAll (a .size) i (on (S .sealed i z)) (local ∷ tag ∷ remote ∷ []) v → outcome v a blank ≡ (0, w)
+  blank-passes e z ez ew =
+      outcome-accepted blank (refusal-late mirror v a blank e) refl
+      (sym (ew ∙ ap (λ (Q : List ℕ). writeAll (a .size) i (on (S .sealed i Q)) (local ∷ tag ∷ remote ∷ []) v) ez))
+
+  -- ---- mend
+
+  mend-by : (w : Verdict) → (answerNumber (reply (firstOf (unjudged w)) (mendAnswer w)), unless (firstOf (unjudged w)) v (writeAll (a .size) i (on (S .sealed i (mends w .plain))) (mends w .places) v)) ≡ mendOutcome S i (a .size) i v w
+  unfolding isLost isClashing
+  mend-by (whole P) = refl
+  mend-by (doubtful p P) = refl
+  mend-by lost = refl
+  mend-by clashing = refl
+
+  pub mend-passes : firstOf (early v a mend) ≡ none → {n : ℕ} {w : Triple} → mendOutcome S i (a .size) i v (judge S i (sector v a)) ≡ (n, w) → outcome v a mend ≡ (n, w)
+  unfolding outcome after
+  mend-passes e x =
+      ap₂ (λ (r : Answer) (o : Option ℕ). (answerNumber r, unless o v (writeAll (a .size) i (on (S .sealed i (mends (judge S i (sector v a)) .plain))) (mends (judge S i (sector v a)) .places) v)))
+      (answer-late mirror v a mend e) (refusal-late mirror v a mend e)
+      ∙ mend-by (judge S i (sector v a)) ∙ x
+
+  -- ---- read
+
+  module _ (out : List ℕ) where
+    read-by : (w : Verdict) → (answerNumber (reply (firstOf (unjudged w)) (judgeAnswer w)), output (reply (firstOf (unjudged w)) (judgeAnswer w)) out) ≡ verdictOutcome w out
+    unfolding isLost isClashing
+    read-by (whole P) = refl
+    read-by (doubtful p P) = refl
+    read-by lost = refl
+    read-by clashing = refl
+
+    pub read-passes : firstOf (early v a (read (length out))) ≡ none → {n : ℕ} {o : List ℕ} → verdictOutcome (judge S i (sector v a)) out ≡ (n, o) → readOutcome v a out ≡ (n, o)
+    unfolding readOutcome
+    read-passes e x = ap (λ (r : Answer). (answerNumber r, output r out)) (answer-late mirror v a (read (length out)) e) ∙ read-by (judge S i (sector v a)) ∙ x
+
+    pub read-refused : {n : ℕ} → firstOf (early v a (read (length out))) ≡ some n → readOutcome v a out ≡ (n, out)
+    unfolding readOutcome
+    read-refused {n} e = ap (λ (r : Answer). (answerNumber r, output r out)) (early-answer mirror v a (read (length out)) n e)

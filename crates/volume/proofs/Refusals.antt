@@ -1,0 +1,206 @@
+-- What a call refuses and answers. Assumes nothing.
+use mathlib.Core.Path.{_≡_, refl, sym, _∙_, ap}
+use mathlib.Core.Bool.{Bool, true, false, _&&_, not, cond}
+use mathlib.Core.List.{List, [], _∷_, _++_}
+use mathlib.Core.Option.{Option, none, some}
+use Prim.Native.Nat.{ℕ, _≤_, _<_, _*_}
+use native.Mathlib.Nat.{eq-of-mul-eq-mul-left}
+use native.Mathlib.Omega.{arith}
+use lib.Dec.{eqb, leb}
+use lib.ListN.{length}
+use borrow.Author.Tests.{not-false, leb-true, leb-false, lt-leb, eqb-true}
+use Rattle.block.specs.Bytes.{Plain}
+use Rattle.mode.specs.Sealing.{Triple, Key}
+use Rattle.mode.specs.Scheme.{Place, local, tag, remote, on, wide, isKey, isSize, Scheme}
+use Rattle.sector.specs.Answers.{Rule, rule, firstOf}
+use Rattle.volume.specs.Answers.{refused, reply}
+use Rattle.volume.specs.Volume.{Args, Call, blank, first, second, third, mend, read, shape, isShape, checks, lengths, early, late, result, sector, sealing, refusal, answer}
+use Rattle.volume.specs.Machine.{Images, Lent}
+use Rattle.volume.specs.History.{AnyBytes}
+use Rattle.block.proofs.Lists.{and-left, and-right}
+use Rattle.volume.proofs.Options.{none-some}
+
+-- ---- lists of rules
+
+pub cond-none : (b : Bool) (k : ℕ) (o : Option ℕ) → cond b (some k) o ≡ none → (b ≡ false) × (o ≡ none)
+cond-none true k o e = absurd (none-some (sym e))
+cond-none false k o e = (refl, e)
+
+-- one rule, which does not hold
+pub only-rule : (b : Bool) (k : ℕ) → cond b (some k) none ≡ none → b ≡ false
+only-rule b k e = cond-none b k none e .0
+
+pub append-none : (xs ys : List Rule) → firstOf (xs ++ ys) ≡ none → (firstOf xs ≡ none) × (firstOf ys ≡ none)
+append-none [] ys e = (refl, e)
+append-none (r ∷ xs) ys e =
+    let u = cond-none (r .condition) (r .number) (firstOf (xs ++ ys)) e in
+    let w = append-none xs ys (u .1) in
+    (ap (λ (b : Bool). cond b (some (r .number)) (firstOf xs)) (u .0) ∙ w .0, w .1)
+
+pub none-append : (xs ys : List Rule) → firstOf xs ≡ none → firstOf (xs ++ ys) ≡ firstOf ys
+none-append [] ys e = refl
+none-append (r ∷ xs) ys e =
+    let u = cond-none (r .condition) (r .number) (firstOf xs) e in
+    ap (λ (b : Bool). cond b (some (r .number)) (firstOf (xs ++ ys))) (u .0) ∙ none-append xs ys (u .1)
+
+pub some-append : (xs ys : List Rule) (k : ℕ) → firstOf xs ≡ some k → firstOf (xs ++ ys) ≡ some k
+some-append [] ys k e = absurd (none-some e)
+some-append (r ∷ xs) ys k e = go (r .condition) (some-append xs ys k) e
+  where
+    go : (b : Bool) → (firstOf xs ≡ some k → firstOf (xs ++ ys) ≡ some k) → cond b (some (r .number)) (firstOf xs) ≡ some k → cond b (some (r .number)) (firstOf (xs ++ ys)) ≡ some k
+    go true h z = z
+    go false h z = h z
+
+-- no rule holds
+abbrev NoneHolds : List Rule → Type 0
+NoneHolds [] = Unit {0}
+NoneHolds (r ∷ rs) = (r .condition ≡ false) × NoneHolds rs
+
+none-holds : (rs : List Rule) → firstOf rs ≡ none → NoneHolds rs
+none-holds [] e = tt
+none-holds (r ∷ rs) e = let u = cond-none (r .condition) (r .number) (firstOf rs) e in (u .0, none-holds rs (u .1))
+
+holds-none : (rs : List Rule) → NoneHolds rs → firstOf rs ≡ none
+holds-none [] h = refl
+holds-none (r ∷ rs) h = ap (λ (b : Bool). cond b (some (r .number)) (firstOf rs)) (h .0) ∙ holds-none rs (h .1)
+
+-- ---- early refusals
+
+-- What passing them shows. Other proofs go by these facts: only `passed` and `passes-early` read the list of rules. First what every call
+-- checks,
+pub record Common (v : Triple) (a : Args) : Type 0 where
+  pub key : isKey (a .key) ≡ true
+  pub size : isSize (a .size) ≡ true
+  pub shape : isShape (a .size) (a .count) v ≡ true
+  pub number : a .number < a .count
+
+-- then what depends on the kind of call.
+pub record Passed (v : Triple) (a : Args) (c : Call) : Type 0 where
+  pub common : Common v a
+  pub lengths : firstOf (lengths a c) ≡ none
+
+pub passed : (v : Triple) (a : Args) (c : Call) → firstOf (early v a c) ≡ none → Passed v a c
+unfolding early
+passed v a c e =
+    let u = append-none (checks (isShape (a .size) (a .count) v) a c) (lengths a c) e in
+    let (k, (s, (r, (n, z)))) = none-holds (checks (isShape (a .size) (a .count) v) a c) (u .0) in
+    record {
+      common = record {
+        key = not-false (isKey (a .key)) k;
+        size = not-false (isSize (a .size)) s;
+        shape = not-false (isShape (a .size) (a .count) v) r;
+        number = leb-false (a .count) (a .number) n;
+      };
+      lengths = u .1;
+    }
+
+pub passes-early : (v : Triple) (a : Args) (c : Call) → Passed v a c → firstOf (early v a c) ≡ none
+unfolding early
+passes-early v a c p =
+    let o = p .common in
+    none-append (checks (isShape (a .size) (a .count) v) a c) (lengths a c)
+    (holds-none (checks (isShape (a .size) (a .count) v) a c) (ap not (o .key), (ap not (o .size), (ap not (o .shape), (lt-leb (a .count) (a .number) (o .number), tt)))))
+    ∙ p .lengths
+
+-- a stage's plaintext is s bytes
+abbrev pub Sized : ℕ → Call → Type 0
+Sized s blank = Unit {0}
+Sized s (first P) = Plain s P
+Sized s (second P) = Plain s P
+Sized s (third P) = Plain s P
+Sized s mend = Unit {0}
+Sized s (read o) = Unit {0}
+
+pub long-3 : (m s : ℕ) → firstOf (rule 3 (not (eqb m s)) ∷ []) ≡ none → m ≡ s
+long-3 m s e = eqb-true m s (not-false (eqb m s) (only-rule (not (eqb m s)) 3 e))
+
+pub sized : (a : Args) (c : Call) → firstOf (lengths a c) ≡ none → Lent c → Sized (a .size) c
+sized a blank e l = tt
+sized a (first P) e l = record { long = long-3 (length P) (a .size) e; bytes = l }
+sized a (second P) e l = record { long = long-3 (length P) (a .size) e; bytes = l }
+sized a (third P) e l = record { long = long-3 (length P) (a .size) e; bytes = l }
+sized a mend e l = tt
+sized a (read o) e l = tt
+
+-- ---- the shape of three images
+
+pub shape-facts : (s n : ℕ) (v : Triple) → isShape s n v ≡ true → (1 ≤ n) × ((p : Place) → length (on v p) ≡ n * wide s p)
+unfolding isShape shape
+shape-facts s n v e = (leb-true 1 n (and-left (leb 1 n) _ e), go)
+  where
+    lengths-hold : (eqb (length (v .local)) (n * s) && (eqb (length (v .remote)) (n * s) && eqb (length (v .tag)) (n * 16))) ≡ true
+    lengths-hold = and-right (leb n 65536) _ (and-right (leb 1 n) _ e)
+
+    go : (p : Place) → length (on v p) ≡ n * wide s p
+    go local = eqb-true (length (v .local)) (n * s) (and-left (eqb (length (v .local)) (n * s)) _ lengths-hold)
+    go tag =
+        eqb-true (length (v .tag)) (n * 16)
+        (and-right (eqb (length (v .remote)) (n * s)) _ (and-right (eqb (length (v .local)) (n * s)) _ lengths-hold))
+    go remote =
+        eqb-true (length (v .remote)) (n * s)
+        (and-left (eqb (length (v .remote)) (n * s)) _ (and-right (eqb (length (v .local)) (n * s)) _ lengths-hold))
+
+pub shape-images : (s n : ℕ) (v : Triple) → isShape s n v ≡ true → AnyBytes v → Images s n v
+shape-images s n v e b = record { images = λ p. record { long = shape-facts s n v e .1 p; bytes = b p } }
+
+-- the images' lengths decide what 8 checks
+pub shape-same : (s n s′ n′ : ℕ) (v w : Triple) → Images s n v → Images s n w → isShape s′ n′ v ≡ isShape s′ n′ w
+unfolding isShape shape
+shape-same s n s′ n′ v w I J =
+    let l : length (v .local) ≡ length (w .local) = I .images local .long ∙ sym (J .images local .long) in
+    let g : length (v .tag) ≡ length (w .tag) = I .images tag .long ∙ sym (J .images tag .long) in
+    let r : length (v .remote) ≡ length (w .remote) = I .images remote .long ∙ sym (J .images remote .long) in
+    rw (l, g, r)
+
+-- so images of the same lengths have the same early refusals
+pub early-same : (s n : ℕ) (v w : Triple) → Images s n v → Images s n w → (a : Args) (c : Call) → early v a c ≡ early w a c
+unfolding early
+early-same s n v w I J a c = ap (λ (b : Bool). checks b a c ++ lengths a c) (shape-same s n (a .size) (a .count) v w I J)
+
+-- The images force s and n: of the calls that are not refused, only the key could be another than the volume's.
+pub forced : (s n : ℕ) (v : Triple) → Images s n v → (s′ n′ : ℕ) → isShape s′ n′ v ≡ true → (s′ ≡ s) × (n′ ≡ n)
+forced s n v I s′ n′ e =
+    let f = shape-facts s′ n′ v e in
+    let t : length (v .tag) ≡ n′ * 16 = f .1 tag in
+    let u : length (v .tag) ≡ n * 16 = I .images tag .long in
+    let m : n′ ≡ n = omega arith in
+    (eq-of-mul-eq-mul-left n′ (f .0) s′ s (sym (f .1 local) ∙ I .images local .long ∙ ap (λ (k : ℕ). k * s) (sym m)), m)
+
+-- ---- refusals and answers
+
+module _ (seals : Key → Scheme) (v : Triple) (a : Args) (c : Call) where
+  pub refusal-none : refusal seals v a c ≡ none → (firstOf (early v a c) ≡ none) × (firstOf (late (sealing seals a) (a .number) (sector v a) c) ≡ none)
+  unfolding refusal
+  refusal-none e = append-none (early v a c) (late (sealing seals a) (a .number) (sector v a) c) e
+
+  -- past the early refusals it is the late ones that count
+  pub refusal-late : firstOf (early v a c) ≡ none → refusal seals v a c ≡ firstOf (late (sealing seals a) (a .number) (sector v a) c)
+  unfolding refusal
+  refusal-late e = none-append (early v a c) (late (sealing seals a) (a .number) (sector v a) c) e
+
+  pub refusal-early : (k : ℕ) → firstOf (early v a c) ≡ some k → refusal seals v a c ≡ some k
+  unfolding refusal
+  refusal-early k e = some-append (early v a c) (late (sealing seals a) (a .number) (sector v a) c) k e
+
+  -- what an accepted call passed
+  pub accepted-passed : refusal seals v a c ≡ none → Passed v a c
+  accepted-passed e = passed v a c (refusal-none e .0)
+
+  -- the images are those of its s and n
+  pub accepted-images : AnyBytes v → refusal seals v a c ≡ none → Images (a .size) (a .count) v
+  accepted-images b e = shape-images (a .size) (a .count) v (accepted-passed e .common .shape) b
+
+  pub answer-accepted : refusal seals v a c ≡ none → answer seals v a c ≡ result (sealing seals a) (a .number) (sector v a) c
+  unfolding answer
+  answer-accepted e = ap (λ (r : Option ℕ). reply r (result (sealing seals a) (a .number) (sector v a) c)) e
+
+  pub answer-refused : (k : ℕ) → refusal seals v a c ≡ some k → answer seals v a c ≡ refused k
+  unfolding answer
+  answer-refused k e = ap (λ (r : Option ℕ). reply r (result (sealing seals a) (a .number) (sector v a) c)) e
+
+  pub answer-late : firstOf (early v a c) ≡ none → answer seals v a c ≡ reply (firstOf (late (sealing seals a) (a .number) (sector v a) c)) (result (sealing seals a) (a .number) (sector v a) c)
+  unfolding answer
+  answer-late e = ap (λ (r : Option ℕ). reply r (result (sealing seals a) (a .number) (sector v a) c)) (refusal-late e)
+
+  pub early-answer : (k : ℕ) → firstOf (early v a c) ≡ some k → answer seals v a c ≡ refused k
+  early-answer k e = answer-refused k (refusal-early k e)

@@ -1,0 +1,137 @@
+-- The stages' outcomes from what the code has worked out. Assumes nothing.
+use mathlib.Core.Path.{_≡_, refl, sym, ap, _∙_}
+use mathlib.Core.Bool.{Bool, true, false, _&&_}
+use mathlib.Core.List.{List}
+use Prim.Native.Nat.{ℕ, _*_, _<_}
+use native.Mathlib.Omega.{arith}
+use lib.Dec.{eqb, lit<}
+use lib.ListN.{length, take, drop}
+use Rattle.block.specs.Bytes.{Bytes, fromBytes, toBytes, blocksOf, part, patch, same}
+use Rattle.block.proofs.Lists.{and-both}
+use Rattle.aes.specs.Aes.{cipherNumber}
+use Rattle.hash.specs.Powers.{keyOf}
+use Rattle.mode.specs.declared.Direction.the-variants.{SealLocal, SealRemote}
+use Rattle.mode.specs.Scheme.{local, tag, remote, Scheme, dcm}
+use Rattle.mode.specs.Sealing.{blockwise, tagBlock, pad, localBlock, remoteBlock, sides, sealedBy}
+use Rattle.mode.specs.Transforms.{transformed}
+use Rattle.sector.specs.declared.Judged.{Judged}
+use Rattle.sector.specs.declared.Judged.the-variants as J
+use Rattle.sector.specs.declared.Place.{Place}
+use Rattle.sector.specs.declared.Place.the-variants.{Local, Tag, Remote}
+use Rattle.sector.specs.declared.Refusal.{Refusal}
+use Rattle.sector.specs.declared.Refusal.the-variants.{KeyLength, SectorSize, OtherLength, UnknownSide, NoneFits, Lost, Clashing, VolumeShape, SectorNumber, StageOrder, ListLength}
+use Rattle.sector.specs.Answers.{refusalNumber, placeNumber, judgedNumber}
+use Rattle.sector.specs.Calls.{verdictOutcome}
+use Rattle.sector.specs.Judging.{schemeOf}
+use Rattle.sector.specs.Verdict.{Verdict, whole, doubtful, lost, clashing, fits, judge}
+use Rattle.sector.proofs.Sides.{tag-loaded, tag-compared}
+use Rattle.volume.specs.Answers.{isWhole}
+use Rattle.volume.specs.Lent.{stage, placesOf, firstOutcome, secondOutcome, thirdOutcome}
+
+-- ---- numbers of answers
+
+refusal-some : (f : Refusal) → 0 < refusalNumber f
+refusal-some KeyLength = lit< tt
+refusal-some SectorSize = lit< tt
+refusal-some OtherLength = lit< tt
+refusal-some UnknownSide = lit< tt
+refusal-some NoneFits = lit< tt
+refusal-some Lost = lit< tt
+refusal-some Clashing = lit< tt
+refusal-some VolumeShape = lit< tt
+refusal-some SectorNumber = lit< tt
+refusal-some StageOrder = lit< tt
+refusal-some ListLength = lit< tt
+
+place-some : (p : Place) → 0 < placeNumber p
+place-some Local = lit< tt
+place-some Tag = lit< tt
+place-some Remote = lit< tt
+
+-- the number 0 is that of whole
+zero-whole : (v : Verdict) (out o : List ℕ) → verdictOutcome v out ≡ (0, o) → isWhole v ≡ true
+unfolding isWhole
+zero-whole (whole P) out o e = refl
+zero-whole (doubtful local P) out o e = absurd (let z : 0x81 ≡ 0 = ap (λ (x : ℕ × List ℕ). x .0) e in omega arith)
+zero-whole (doubtful tag P) out o e = absurd (let z : 0x82 ≡ 0 = ap (λ (x : ℕ × List ℕ). x .0) e in omega arith)
+zero-whole (doubtful remote P) out o e = absurd (let z : 0x83 ≡ 0 = ap (λ (x : ℕ × List ℕ). x .0) e in omega arith)
+zero-whole lost out o e = absurd (let z : 6 ≡ 0 = ap (λ (x : ℕ × List ℕ). x .0) e in omega arith)
+zero-whole clashing out o e = absurd (let z : 7 ≡ 0 = ap (λ (x : ℕ × List ℕ). x .0) e in omega arith)
+
+some-not-whole : (v : Verdict) (out o : List ℕ) (n : ℕ) → verdictOutcome v out ≡ (n, o) → 0 < n → isWhole v ≡ false
+unfolding isWhole
+some-not-whole (whole P) out o n e h = absurd (let z : 0 ≡ n = ap (λ (x : ℕ × List ℕ). x .0) e in omega arith)
+some-not-whole (doubtful p P) out o n e h = refl
+some-not-whole lost out o n e h = refl
+some-not-whole clashing out o n e h = refl
+
+pub judged-whole : (v : Verdict) (out o : List ℕ) (j : Judged) → verdictOutcome v out ≡ (judgedNumber j, o) → j ≡ J.Whole → isWhole v ≡ true
+judged-whole v out o j e w = zero-whole v out o (e ∙ ap (λ (k : Judged). (judgedNumber k, o)) w)
+
+pub judged-doubtful : (v : Verdict) (out o : List ℕ) (j : Judged) (p : Place) → verdictOutcome v out ≡ (judgedNumber j, o) → j ≡ J.Doubtful p → isWhole v ≡ false
+judged-doubtful v out o j p e w = some-not-whole v out o (placeNumber p) (e ∙ ap (λ (k : Judged). (judgedNumber k, o)) w) (place-some p)
+
+pub judged-refused : (v : Verdict) (out o : List ℕ) (j : Judged) (f : Refusal) → verdictOutcome v out ≡ (judgedNumber j, o) → j ≡ J.Refused f → isWhole v ≡ false
+judged-refused v out o j f e w = some-not-whole v out o (refusalNumber f) (e ∙ ap (λ (k : Judged). (judgedNumber k, o)) w) (refusal-some f)
+
+-- ---- a stage
+
+and-first : (a b : Bool) → a ≡ false → (a && b) ≡ false
+and-first a b e = ap (λ (x : Bool). x && b) e
+
+and-second : (a b : Bool) → b ≡ false → (a && b) ≡ false
+and-second true b e = e
+and-second false b e = refl
+
+stage-yes : {x : Bool} (new old : List ℕ) {o : List ℕ} → x ≡ true → o ≡ new → stage x new old ≡ (0, o)
+stage-yes {x} new old {o} e eo = ap (λ (t : Bool). stage t new old) e ∙ ap (λ (l : List ℕ). (0, l)) (sym eo)
+
+stage-no : {x : Bool} (new old : List ℕ) → x ≡ false → stage x new old ≡ (10, old)
+stage-no {x} new old e = ap (λ (t : Bool). stage t new old) e
+
+module _ (w p : List ℕ) (T s i : ℕ) (P l g r : List ℕ) where
+  abbrev S : Scheme
+  S = schemeOf w p
+
+  pub first-yes : {o : List ℕ} → isWhole (judge S T (placesOf s i l g r)) ≡ true → o ≡ patch s i (S .sealed T P .local) l → firstOutcome S T s i P l g r ≡ (0, o)
+  first-yes e eo = stage-yes (patch s i (S .sealed T P .local) l) l e eo
+
+  pub first-no : isWhole (judge S T (placesOf s i l g r)) ≡ false → firstOutcome S T s i P l g r ≡ (10, l)
+  first-no e = stage-no (patch s i (S .sealed T P .local) l) l e
+
+  pub second-yes : {o : List ℕ} → fits S T (placesOf s i l g r) local P ≡ true → o ≡ patch 16 i (S .sealed T P .tag) g → secondOutcome S T s i P l g r ≡ (0, o)
+  second-yes e eo = stage-yes (patch 16 i (S .sealed T P .tag) g) g e eo
+
+  pub second-no : fits S T (placesOf s i l g r) local P ≡ false → secondOutcome S T s i P l g r ≡ (10, g)
+  second-no e = stage-no (patch 16 i (S .sealed T P .tag) g) g e
+
+  pub third-yes : {o : List ℕ} → fits S T (placesOf s i l g r) local P ≡ true → fits S T (placesOf s i l g r) tag P ≡ true → o ≡ patch s i (S .sealed T P .remote) r → thirdOutcome S T s i P l g r ≡ (0, o)
+  third-yes e f eo = stage-yes (patch s i (S .sealed T P .remote) r) r (and-both (fits S T (placesOf s i l g r) local P) (fits S T (placesOf s i l g r) tag P) e f) eo
+
+  pub third-no-local : fits S T (placesOf s i l g r) local P ≡ false → thirdOutcome S T s i P l g r ≡ (10, r)
+  third-no-local e = stage-no (patch s i (S .sealed T P .remote) r) r (and-first (fits S T (placesOf s i l g r) local P) (fits S T (placesOf s i l g r) tag P) e)
+
+  pub third-no-tag : fits S T (placesOf s i l g r) tag P ≡ false → thirdOutcome S T s i P l g r ≡ (10, r)
+  third-no-tag e = stage-no (patch s i (S .sealed T P .remote) r) r (and-second (fits S T (placesOf s i l g r) local P) (fits S T (placesOf s i l g r) tag P) e)
+
+module _ (w p : List ℕ) (T s i : ℕ) (P l g r : List ℕ) (k : ℕ) (ek : k ≡ tagBlock (cipherNumber w) (keyOf p) T P) where
+  pub local-test : {x : Bool} → x ≡ same (part s i l) (sides (cipherNumber w) k P .local) → x ≡ fits (schemeOf w p) T (placesOf s i l g r) local P
+  unfolding fits dcm sealedBy
+  local-test e = e ∙ ap (λ (n : ℕ). same (part s i l) (sides (cipherNumber w) n P .local)) ek
+
+  pub tag-test : length (part 16 i g) ≡ 16 → Bytes (part 16 i g) → (n : ℕ) → n ≡ fromBytes (take 16 (drop (i * 16) g)) → {x : Bool} → x ≡ eqb k n → x ≡ fits (schemeOf w p) T (placesOf s i l g r) tag P
+  unfolding fits part
+  tag-test size bytes n en e = tag-compared w p T (part 16 i g) size bytes P k n ek (en ∙ sym (tag-loaded (part 16 i g) size)) e
+
+  -- what is written
+  pub local-written : {o : List ℕ} → o ≡ patch s i (blockwise (λ j v. transformed SealLocal (pad (cipherNumber w) k j) v) 1 (blocksOf P)) l → o ≡ patch s i (schemeOf w p .sealed T P .local) l
+  unfolding dcm sealedBy sides localBlock
+  local-written e = e ∙ ap (λ (n : ℕ). patch s i (blockwise (localBlock (cipherNumber w) n) 1 (blocksOf P)) l) ek
+
+  pub tag-written : {o : List ℕ} → o ≡ patch 16 i (toBytes 16 k) g → o ≡ patch 16 i (schemeOf w p .sealed T P .tag) g
+  unfolding dcm sealedBy sides
+  tag-written e = e ∙ ap (λ (n : ℕ). patch 16 i (toBytes 16 n) g) ek
+
+  pub remote-written : {o : List ℕ} → o ≡ patch s i (blockwise (λ j v. transformed SealRemote (pad (cipherNumber w) k j) v) 1 (blocksOf P)) r → o ≡ patch s i (schemeOf w p .sealed T P .remote) r
+  unfolding dcm sealedBy sides remoteBlock
+  remote-written e = e ∙ ap (λ (n : ℕ). patch s i (blockwise (remoteBlock (cipherNumber w) n) 1 (blocksOf P)) r) ek

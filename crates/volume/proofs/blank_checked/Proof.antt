@@ -1,0 +1,53 @@
+use mathlib.Core.Path.{_∙_}
+use lib.ListN.{length}
+use Rattle.sector.specs.Calls.{triple}
+use Rattle.sector.proofs.Prepared.{ready-of}
+use Rattle.volume.proofs.Keyed.{blank-keyed}
+use borrow.Author.Needs.{needs}
+use Rattle.volume.proofs.blank_checked.Statement.{statement}
+use Rattle.volume.proofs.blank_checked.Tie as tie
+
+table-requires : tie.Need-table-requires
+table-requires c κs = search needs
+
+prepare-requires : tie.Need-prepare-requires
+prepare-requires c κs = search needs
+
+context-requires : tie.Need-context-requires
+context-requires c κs = search needs
+
+slice-aggregate-write-all : tie.Need-slice-aggregate-write-all
+slice-aggregate-write-all c = search needs
+
+write-all-requires : tie.Need-write-all-requires
+write-all-requires c κs =
+    let a = c .before .before .before .before .before .before .before .before .before .before .before .before .before .before .before .before .before .args in
+    (ready-of (a .key .now) _ (c .before .before .before .before .before .before .before .before .before .prepare .ensures) _ (a .i) (c .before .before .before .before .before .before .context .ensures) (c .before .before .before .before .before .before .before .before .before .before .before .table .ensures), c .before .before .before .before .before .before .before .before .before .before .before .before .before .before .before .before .before .pre .1)
+
+same-length : tie.Need-same-length
+same-length c = search needs
+
+same-length-2 : tie.Need-same-length-2
+same-length-2 c = search needs
+
+same-length-3 : tie.Need-same-length-3
+same-length-3 c = search needs
+
+returns : tie.Need-returns
+returns c =
+    let a = c .before .before .before .before .before .before .before .before .before .before .before .before .before .before .before .before .before .before .before .before .before .before .before .before .args in
+    c .before .before .before .before .before .before .write-all .ensures ∙ blank-keyed (a .key .now) _ (c .before .before .before .before .before .before .before .before .before .before .before .before .before .before .before .before .prepare .ensures) _ (a .i) (c .before .before .before .before .before .before .before .before .before .before .before .before .before .context .ensures) (length (a .p .now)) (a .p .now) (triple (a .local .now) (a .tags .now) (a .remote .now))
+
+pub blank-checked-spec : {M : Type 1} → statement M
+blank-checked-spec =
+    tie.close
+    (tie.spec
+    table-requires
+    prepare-requires
+    context-requires
+    slice-aggregate-write-all
+    write-all-requires
+    same-length
+    same-length-2
+    same-length-3
+    returns)

@@ -1,0 +1,79 @@
+use mathlib.Core.Path.{sym, _∙_}
+use native.Mathlib.Omega.{arith}
+use lib.ListN.{length-take}
+use Rattle.sector.proofs.Prepared.{ready-of}
+use Rattle.volume.proofs.Keyed.{mend-keyed}
+use Rattle.sector.specs.Calls.{triple}
+use borrow.Author.Needs.{needs}
+use Rattle.volume.proofs.mend_checked.Statement.{statement}
+use Rattle.volume.proofs.mend_checked.Tie as tie
+
+table-requires : tie.Need-table-requires
+table-requires c κs = search needs
+
+prepare-requires : tie.Need-prepare-requires
+prepare-requires c κs = search needs
+
+context-requires : tie.Need-context-requires
+context-requires c κs = search needs
+
+slice-aggregate-mend-in : tie.Need-slice-aggregate-mend-in
+slice-aggregate-mend-in c = search needs
+
+array-borrow-prefix-plain : tie.Need-array-borrow-prefix-plain
+array-borrow-prefix-plain c = search needs
+
+slice-aggregate-mend-in-2 : tie.Need-slice-aggregate-mend-in-2
+slice-aggregate-mend-in-2 c = let z = c .before .before .before .before .before .before .before .before .before .before .before .before .before .before .before .before .before .pre .1 in simp length-take (omega arith)
+
+array-borrow-prefix-sum : tie.Need-array-borrow-prefix-sum
+array-borrow-prefix-sum c = let z = c .before .before .before .before .before .before .before .before .before .before .before .before .before .before .before .before .before .pre .1 in omega arith
+
+slice-aggregate-mend-in-3 : tie.Need-slice-aggregate-mend-in-3
+slice-aggregate-mend-in-3 c = let z = c .before .before .before .before .before .before .before .before .before .before .before .before .before .before .before .before .before .before .pre .1 in simp length-take (omega arith)
+
+array-borrow-prefix-scratch : tie.Need-array-borrow-prefix-scratch
+array-borrow-prefix-scratch c = let z = c .before .before .before .before .before .before .before .before .before .before .before .before .before .before .before .before .before .before .pre .1 in omega arith
+
+slice-aggregate-mend-in-4 : tie.Need-slice-aggregate-mend-in-4
+slice-aggregate-mend-in-4 c = let z = c .before .before .before .before .before .before .before .before .before .before .before .before .before .before .before .before .before .before .before .pre .1 in simp length-take (omega arith)
+
+mend-in-requires : tie.Need-mend-in-requires
+mend-in-requires c κs =
+    let a = c .before .before .before .before .before .before .before .before .before .before .before .before .before .before .before .before .before .before .before .args in
+    let z = c .before .before .before .before .before .before .before .before .before .before .before .before .before .before .before .before .before .before .before .pre .1 in
+    (ready-of (a .key .now) _ (c .before .before .before .before .before .before .before .before .before .before .before .before .prepare .ensures) _ (a .i) (c .before .before .before .before .before .before .before .before .before .context .ensures) (c .before .before .before .before .before .before .before .before .before .before .before .before .before .before .table .ensures), z, simp length-take (omega arith), simp length-take (omega arith), simp length-take (omega arith))
+
+same-length : tie.Need-same-length
+same-length c = search needs
+
+same-length-2 : tie.Need-same-length-2
+same-length-2 c = search needs
+
+same-length-3 : tie.Need-same-length-3
+same-length-3 c = search needs
+
+returns : tie.Need-returns
+returns c =
+    let a = c .before .before .before .before .before .before .before .before .before .before .before .before .before .before .before .before .before .before .before .before .before .before .before .before .before .before .before .before .before .args in
+    sym (mend-keyed (a .key .now) _ (c .before .before .before .before .before .before .before .before .before .before .before .before .before .before .before .before .before .before .before .before .before .before .prepare .ensures) _ (a .i) (c .before .before .before .before .before .before .before .before .before .before .before .before .before .before .before .before .before .before .before .context .ensures) (a .s) (triple (a .local .now) (a .tags .now) (a .remote .now)) (a .local .now) (a .tags .now) (a .remote .now)) ∙ c .before .before .before .before .before .before .before .before .before .mend-in .ensures
+
+pub mend-checked-spec : {M : Type 1} → statement M
+mend-checked-spec =
+    tie.close
+    (tie.spec
+    table-requires
+    prepare-requires
+    context-requires
+    slice-aggregate-mend-in
+    array-borrow-prefix-plain
+    slice-aggregate-mend-in-2
+    array-borrow-prefix-sum
+    slice-aggregate-mend-in-3
+    array-borrow-prefix-scratch
+    slice-aggregate-mend-in-4
+    mend-in-requires
+    same-length
+    same-length-2
+    same-length-3
+    returns)

@@ -1,0 +1,50 @@
+use Rattle.block.specs.Value.{value}
+use lib.ListN.{length}
+use Rattle.sector.specs.Calls.{triple}
+use Rattle.volume.proofs.Stages.{local-written, tag-written, remote-written}
+use borrow.Author.Needs.{needs}
+use Rattle.volume.proofs.write_all.Statement.{statement}
+use Rattle.volume.proofs.write_all.Tie as tie
+
+tag-block-requires : tie.Need-tag-block-requires
+tag-block-requires c κs = search needs
+
+write-side-requires : tie.Need-write-side-requires
+write-side-requires c κs = search needs
+
+write-tag-requires : tie.Need-write-tag-requires
+write-tag-requires c κs = search needs
+
+write-side-requires-2 : tie.Need-write-side-requires-2
+write-side-requires-2 c κs = search needs
+
+same-length : tie.Need-same-length
+same-length c = search needs
+
+same-length-2 : tie.Need-same-length-2
+same-length-2 c = search needs
+
+same-length-3 : tie.Need-same-length-3
+same-length-3 c = search needs
+
+returns : tie.Need-returns
+returns c =
+    let a = c .before .before .before .before .before .before .before .before .before .before .before .before .before .before .before .before .before .before .args in
+    let k = c .before .before .before .before .before .before .before .before .before .before .before .before .tag-block .ensures in
+    let l = local-written (a .w .now) (a .powers .now) (value (a .m .tweak)) (length (a .p .now)) (a .i) (a .p .now) (a .local .now) (a .tags .now) (a .remote .now) _ k (c .before .before .before .before .before .before .before .before .before .before .write-side .ensures) in
+    let g = tag-written (a .w .now) (a .powers .now) (value (a .m .tweak)) (length (a .p .now)) (a .i) (a .p .now) (a .local .now) (a .tags .now) (a .remote .now) _ k (c .before .before .before .before .before .before .write-tag .ensures) in
+    let r = remote-written (a .w .now) (a .powers .now) (value (a .m .tweak)) (length (a .p .now)) (a .i) (a .p .now) (a .local .now) (a .tags .now) (a .remote .now) _ k (c .before .before .write-side2 .ensures) in
+    λ j. triple (l j) (g j) (r j)
+
+pub write-all-spec : {M : Type 1} → statement M
+write-all-spec =
+    tie.close
+    (tie.spec
+    tag-block-requires
+    write-side-requires
+    write-tag-requires
+    write-side-requires-2
+    same-length
+    same-length-2
+    same-length-3
+    returns)

@@ -1,0 +1,64 @@
+-- What the inner functions are lent. Assumes nothing: these are definitions.
+use mathlib.Core.Path.{_≡_}
+use mathlib.Core.Bool.{Bool, true, false, _&&_}
+use mathlib.Core.List.{List}
+use Prim.Native.Nat.{ℕ, _+_, _*_, _<_, _≤_, _%_}
+use Rattle.block.specs.Bytes.{patch}
+use Rattle.mode.specs.Scheme.{Place, local, tag, remote, on, Scheme}
+use Rattle.mode.specs.Sealing.{Key, Triple}
+use Rattle.sector.specs.declared.Place as D
+use Rattle.sector.specs.declared.Place.the-variants.{Local, Tag, Remote}
+use Rattle.sector.specs.Answers.{doubtNumber}
+use Rattle.sector.specs.Calls.{triple}
+use Rattle.sector.specs.Verdict.{Verdict, whole, doubtful, lost, clashing, fits, judge}
+use Rattle.volume.specs.Answers.{isWhole}
+use Rattle.volume.specs.Volume.{sectorOf, writeAll, mends, Args}
+
+abbrev pub args : Key → ℕ → ℕ → ℕ → Args
+args k s n i = record { key = k; size = s; count = n; number = i }
+
+-- a sector size s, and a number i whose parts lie within images of l, g and r bytes
+pub record Within (s i l g r : ℕ) : Type 0 where
+  pub blocks : s % 16 ≡ 0
+  pub most : s ≤ 4096
+  pub number : i < 65536
+  pub local-end : i * s + s ≤ l
+  pub tag-end : i * 16 + 16 ≤ g
+  pub remote-end : i * s + s ≤ r
+
+-- ---- what the inner functions answer and leave, under a scheme S and a tweak T
+
+abbrev pub stage : Bool → List ℕ → List ℕ → ℕ × List ℕ
+stage true new old = (0, new)
+stage false new old = (10, old)
+
+-- sector i of three images
+abbrev pub placesOf : ℕ → ℕ → List ℕ → List ℕ → List ℕ → Triple
+placesOf s i l g r = sectorOf s i (triple l g r)
+
+module _ (S : Scheme) (T : ℕ) (s i : ℕ) (P l g r : List ℕ) where
+  -- the local image after a first stage, the tags after a second, the remote image after a third
+  abbrev pub firstOutcome : ℕ × List ℕ
+  firstOutcome = stage (isWhole (judge S T (placesOf s i l g r))) (patch s i (S .sealed T P .local) l) l
+
+  abbrev pub secondOutcome : ℕ × List ℕ
+  secondOutcome = stage (fits S T (placesOf s i l g r) local P) (patch 16 i (S .sealed T P .tag) g) g
+
+  abbrev pub thirdOutcome : ℕ × List ℕ
+  thirdOutcome = stage (fits S T (placesOf s i l g r) local P && fits S T (placesOf s i l g r) tag P) (patch s i (S .sealed T P .remote) r) r
+
+-- the place that an enum of the code names
+abbrev pub placeNamed : D.Place → Place
+placeNamed Local = local
+placeNamed Tag = tag
+placeNamed Remote = remote
+
+-- the number of a verdict, and the images after a mend that finds it
+abbrev pub verdictNumber : Verdict → ℕ
+verdictNumber (whole P) = 0
+verdictNumber (doubtful p P) = doubtNumber p
+verdictNumber lost = 6
+verdictNumber clashing = 7
+
+abbrev pub mendOutcome : Scheme → ℕ → ℕ → ℕ → Triple → Verdict → ℕ × Triple
+mendOutcome S T s i v w = (verdictNumber w, writeAll s i (on (S .sealed T (mends w .plain))) (mends w .places) v)

@@ -1,0 +1,5 @@
+pub mod Answers
+pub mod Volume
+pub mod Machine
+pub mod History
+pub mod Lent

@@ -1,0 +1,182 @@
+-- The calls on one sector of a volume (document 01, "A volume"): what they refuse, answer and leave. Assumes nothing: these are
+-- definitions, over any scheme; `mirror` is the one that is used.
+use mathlib.Core.Bool.{Bool, not, _&&_}
+use mathlib.Core.List.{List, [], _∷_, _++_}
+use mathlib.Core.Option.{Option, none, some}
+use Prim.Native.Nat.{ℕ, _*_}
+use lib.Dec.{eqb, leb}
+use lib.ListN.{length, replicate}
+use Rattle.block.specs.Bytes.{part, patch}
+use Rattle.mode.specs.Sealing.{Triple, Key, tweak}
+use Rattle.mode.specs.Scheme.{Place, local, tag, remote, on, wide, isSize, Scheme, scheme}
+use Rattle.sector.specs.Verdict.{Verdict, whole, doubtful, lost, clashing, fits, judge}
+use Rattle.sector.specs.Calls.{keyRules}
+use Rattle.sector.specs.Answers.{Rule, rule, firstOf}
+use Rattle.volume.specs.Answers.{Answer, refused, done, found, reply, isWhole, unjudged, judgeAnswer, answerNumber, output}
+
+-- ---- three images
+
+-- the three places of sector i, its parts of the three images
+abbrev pub sectorOf : ℕ → ℕ → Triple → Triple
+sectorOf s i v = record { local = part s i (v .local); tag = part 16 i (v .tag); remote = part s i (v .remote) }
+
+-- a triple with b for one of the three
+abbrev pub store : Place → List ℕ → Triple → Triple
+store local b t = record { local = b; tag = t .tag; remote = t .remote }
+store tag b t = record { local = t .local; tag = b; remote = t .remote }
+store remote b t = record { local = t .local; tag = t .tag; remote = b }
+
+-- b written to one place of sector i
+abbrev pub write : ℕ → ℕ → Place → List ℕ → Triple → Triple
+write s i p b v = store p (patch (wide s p) i b (on v p)) v
+
+-- bytes for each place, written to some of the places of sector i
+abbrev pub writeAll : ℕ → ℕ → (Place → List ℕ) → List Place → Triple → Triple
+writeAll s i b [] v = v
+writeAll s i b (p ∷ ps) v = writeAll s i b ps (write s i p (b p) v)
+
+-- ---- calls
+
+-- what every call takes: a key, the size s, the count n and a sector's number
+pub record Args : Type 0 where
+  pub key : Key
+  pub size : ℕ
+  pub count : ℕ
+  pub number : ℕ
+
+-- the calls on one sector, with what else they take: a stage its plaintext, a read the length of its output
+pub data Call : Type 0 where
+  blank : Call
+  first second third : List ℕ → Call
+  mend : Call
+  read : ℕ → Call
+
+-- ---- refusals
+
+-- n from 1 to 65,536, two images of n times s bytes, and tags of n times 16
+unfoldable pub shape : ℕ → ℕ → ℕ → ℕ → ℕ → Bool
+shape s n l g r = leb 1 n && (leb n 65536 && (eqb l (n * s) && (eqb r (n * s) && eqb g (n * 16))))
+
+unfoldable pub isShape : ℕ → ℕ → Triple → Bool
+unfolding shape
+isShape s n v = shape s n (length (v .local)) (length (v .tag)) (length (v .remote))
+
+-- refusals 2, 8 and 9; `right` says whether n and the images have the right shape
+abbrev pub shapeRules : ℕ → ℕ → ℕ → Bool → List Rule
+shapeRules s n i right = rule 2 (not (isSize s)) ∷ rule 8 (not right) ∷ rule 9 (leb n i) ∷ []
+
+-- refusals 1, 2, 8 and 9
+abbrev pub checks : Bool → Args → Call → List Rule
+checks right a c = keyRules (a .key) ++ shapeRules (a .size) (a .count) (a .number) right
+
+-- refusal 3: a plaintext or an output of p bytes that is not s bytes
+abbrev pub lengthRules : ℕ → ℕ → List Rule
+lengthRules p s = rule 3 (not (eqb p s)) ∷ []
+
+abbrev pub lengths : Args → Call → List Rule
+lengths a blank = []
+lengths a (first P) = lengthRules (length P) (a .size)
+lengths a (second P) = lengthRules (length P) (a .size)
+lengths a (third P) = lengthRules (length P) (a .size)
+lengths a mend = []
+lengths a (read o) = lengthRules o (a .size)
+
+-- all that comes before 6 (read, mend) or 10 (a stage)
+unfoldable pub early : Triple → Args → Call → List Rule
+early v a c = checks (isShape (a .size) (a .count) v) a c ++ lengths a c
+
+-- the last refusals, of the three places t of sector i
+abbrev pub late : Scheme → ℕ → Triple → Call → List Rule
+late S i t blank = []
+-- 10: the sector is not whole
+late S i t (first P) = rule 10 (not (isWhole (judge S i t))) ∷ []
+-- 10: P does not fit the local place
+late S i t (second P) = rule 10 (not (fits S i t local P)) ∷ []
+-- 10: P does not fit local and tag
+late S i t (third P) = rule 10 (not (fits S i t local P && fits S i t tag P)) ∷ []
+-- 6 and 7
+late S i t mend = unjudged (judge S i t)
+late S i t (read o) = unjudged (judge S i t)
+
+-- ---- writes
+
+-- places, and the plaintext as whose sealing they are written
+pub record Writes : Type 0 where
+  pub plain : List ℕ
+  pub places : List Place
+
+-- a mend writes the doubtful place as the one plaintext seals
+abbrev pub mends : Verdict → Writes
+mends (whole P) = record { plain = P; places = [] }
+mends (doubtful d P) = record { plain = P; places = d ∷ [] }
+mends lost = record { plain = []; places = [] }
+mends clashing = record { plain = []; places = [] }
+
+abbrev pub writes : ℕ → Scheme → ℕ → Triple → Call → Writes
+-- zeros into all three places
+writes s S i t blank = record { plain = replicate s 0; places = local ∷ tag ∷ remote ∷ [] }
+-- P's local sector,
+writes s S i t (first P) = record { plain = P; places = local ∷ [] }
+-- then P's tag,
+writes s S i t (second P) = record { plain = P; places = tag ∷ [] }
+-- then P's remote sector
+writes s S i t (third P) = record { plain = P; places = remote ∷ [] }
+writes s S i t mend = mends (judge S i t)
+writes s S i t (read o) = record { plain = []; places = [] }
+
+-- ---- answers
+
+-- a mend answers the verdict that it found
+abbrev pub mendAnswer : Verdict → Answer
+mendAnswer (whole P) = found none
+mendAnswer (doubtful d P) = found (some d)
+mendAnswer lost = refused 6
+mendAnswer clashing = refused 7
+
+-- what a call answers that is not refused
+abbrev pub result : Scheme → ℕ → Triple → Call → Answer
+result S i t blank = done
+result S i t (first P) = done
+result S i t (second P) = done
+result S i t (third P) = done
+result S i t mend = mendAnswer (judge S i t)
+result S i t (read o) = judgeAnswer (judge S i t)
+
+-- the old images if a call is refused, else the new
+abbrev pub unless : Option ℕ → Triple → Triple → Triple
+unless none old new = new
+unless (some k) old new = old
+
+-- the call's sector
+abbrev pub sector : Triple → Args → Triple
+sector v a = sectorOf (a .size) (a .number) v
+
+module _ (seals : Key → Scheme) where
+  -- the sealing that a call uses
+  abbrev pub sealing : Args → Scheme
+  sealing a = seals (a .key)
+
+  -- the sector's number is its address
+  unfoldable pub refusal : Triple → Args → Call → Option ℕ
+  refusal v a c = firstOf (early v a c ++ late (sealing a) (a .number) (sector v a) c)
+
+  unfoldable pub answer : Triple → Args → Call → Answer
+  answer v a c = reply (refusal v a c) (result (sealing a) (a .number) (sector v a) c)
+
+  -- the images that a call leaves, finished or refused
+  unfoldable pub after : Triple → Args → Call → Triple
+  after v a c =
+      let w = writes (a .size) (sealing a) (a .number) (sector v a) c in
+      unless (refusal v a c) v (writeAll (a .size) (a .number) (on (sealing a .sealed (a .number) (w .plain))) (w .places) v)
+
+-- the mode with an address for the tweak
+unfoldable pub mirror : Key → Scheme
+mirror k = record { sealed = λ address. scheme k .sealed (tweak address); openLocal = scheme k .openLocal; openRemote = scheme k .openRemote }
+
+-- ---- the calls of the library: the number of the answer, and the images or the output afterwards
+
+unfoldable pub outcome : Triple → Args → Call → ℕ × Triple
+outcome v a c = (answerNumber (answer mirror v a c), after mirror v a c)
+
+unfoldable pub readOutcome : Triple → Args → List ℕ → ℕ × List ℕ
+readOutcome v a out = let r = answer mirror v a (read (length out)) in (answerNumber r, output r out)
