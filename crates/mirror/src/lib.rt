@@ -8,6 +8,9 @@ ghost use mathlib.Core.Path.{_≡_};
 ghost use Rattle.sector.specs.Answers.{refusalNumber, placeNumber, doneNumber, judgedNumber};
 ghost use Rattle.sector.specs.Calls.{key, triple, sealCall, judgeCall, openCall, rebuildCall, combineCall};
 ghost use Rattle.sector.specs.Calls as C;
+ghost use Rattle.volume.specs.Lent.{args};
+ghost use Rattle.volume.specs.Volume.{outcome, readOutcome};
+ghost use Rattle.volume.specs.Volume as W;
 
 fn refusal_number(r: Refusal) -> u32
     ensures { λ n. ⌜ n ≡ refusalNumber r ⌝ }
@@ -117,4 +120,98 @@ pub extern "C" fn mirror_combine(local: &[u8], remote: &[u8], out: &mut [u8]) ->
     ensures { λ r. ⌜ combineCall (now (local .entry)) (now (remote .entry)) (now (out .entry)) ≡ (r, now (out .exit)) ⌝ }
 {
     done_number(sector::combine(local, remote, out))
+}
+
+#[no_mangle]
+pub extern "C" fn mirror_blank(
+    key: &[u8],
+    s: usize,
+    n: usize,
+    number: usize,
+    local: &mut [u8],
+    tags: &mut [u8],
+    remote: &mut [u8],
+) -> u32
+    ensures { λ r. ⌜ outcome (triple (now (local .entry)) (now (tags .entry)) (now (remote .entry))) (args (C.key (now (key .entry))) s n number) W.blank ≡ (r, triple (now (local .exit)) (now (tags .exit)) (now (remote .exit))) ⌝ }
+{
+    done_number(volume::blank(key, s, n, number, local, tags, remote))
+}
+
+#[no_mangle]
+pub extern "C" fn mirror_first_stage(
+    key: &[u8],
+    s: usize,
+    n: usize,
+    number: usize,
+    plain: &[u8],
+    local: &mut [u8],
+    tags: &[u8],
+    remote: &[u8],
+) -> u32
+    ensures { λ r. ⌜ outcome (triple (now (local .entry)) (now (tags .entry)) (now (remote .entry))) (args (C.key (now (key .entry))) s n number) (W.first (now (plain .entry))) ≡ (r, triple (now (local .exit)) (now (tags .entry)) (now (remote .entry))) ⌝ }
+{
+    done_number(volume::first_stage(key, s, n, number, plain, local, tags, remote))
+}
+
+#[no_mangle]
+pub extern "C" fn mirror_second_stage(
+    key: &[u8],
+    s: usize,
+    n: usize,
+    number: usize,
+    plain: &[u8],
+    local: &[u8],
+    tags: &mut [u8],
+    remote: &[u8],
+) -> u32
+    ensures { λ r. ⌜ outcome (triple (now (local .entry)) (now (tags .entry)) (now (remote .entry))) (args (C.key (now (key .entry))) s n number) (W.second (now (plain .entry))) ≡ (r, triple (now (local .entry)) (now (tags .exit)) (now (remote .entry))) ⌝ }
+{
+    done_number(volume::second_stage(key, s, n, number, plain, local, tags, remote))
+}
+
+#[no_mangle]
+pub extern "C" fn mirror_third_stage(
+    key: &[u8],
+    s: usize,
+    n: usize,
+    number: usize,
+    plain: &[u8],
+    local: &[u8],
+    tags: &[u8],
+    remote: &mut [u8],
+) -> u32
+    ensures { λ r. ⌜ outcome (triple (now (local .entry)) (now (tags .entry)) (now (remote .entry))) (args (C.key (now (key .entry))) s n number) (W.third (now (plain .entry))) ≡ (r, triple (now (local .entry)) (now (tags .entry)) (now (remote .exit))) ⌝ }
+{
+    done_number(volume::third_stage(key, s, n, number, plain, local, tags, remote))
+}
+
+#[no_mangle]
+pub extern "C" fn mirror_read(
+    key: &[u8],
+    s: usize,
+    n: usize,
+    number: usize,
+    local: &[u8],
+    tags: &[u8],
+    remote: &[u8],
+    out: &mut [u8],
+) -> u32
+    ensures { λ r. ⌜ readOutcome (triple (now (local .entry)) (now (tags .entry)) (now (remote .entry))) (args (C.key (now (key .entry))) s n number) (now (out .entry)) ≡ (r, now (out .exit)) ⌝ }
+{
+    judged_number(volume::read(key, s, n, number, local, tags, remote, out))
+}
+
+#[no_mangle]
+pub extern "C" fn mirror_mend(
+    key: &[u8],
+    s: usize,
+    n: usize,
+    number: usize,
+    local: &mut [u8],
+    tags: &mut [u8],
+    remote: &mut [u8],
+) -> u32
+    ensures { λ r. ⌜ outcome (triple (now (local .entry)) (now (tags .entry)) (now (remote .entry))) (args (C.key (now (key .entry))) s n number) W.mend ≡ (r, triple (now (local .exit)) (now (tags .exit)) (now (remote .exit))) ⌝ }
+{
+    judged_number(volume::mend(key, s, n, number, local, tags, remote))
 }

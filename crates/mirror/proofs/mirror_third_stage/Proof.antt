@@ -1,0 +1,21 @@
+use Rattle.mirror.proofs.Numbers.{renumber}
+use borrow.Author.Needs.{needs}
+use Rattle.mirror.proofs.mirror_third_stage.Statement.{statement}
+use Rattle.mirror.proofs.mirror_third_stage.Tie as tie
+
+third-stage-requires : tie.Need-third-stage-requires
+third-stage-requires c κs = search needs
+
+done-number-requires : tie.Need-done-number-requires
+done-number-requires c κs = search needs
+
+same-length : tie.Need-same-length
+same-length c = search needs
+
+returns : tie.Need-returns
+returns c = renumber (c .before .before .before .third-stage .ensures) (c .done-number .ensures)
+
+pub mirror-third-stage-spec : {M : Type 1} → statement M
+mirror-third-stage-spec =
+    tie.close
+    (tie.spec third-stage-requires done-number-requires same-length returns)
