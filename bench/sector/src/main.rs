@@ -3,18 +3,6 @@ use reference::rng::Rng;
 use reference::seal;
 use std::time::Instant;
 
-#[allow(clippy::too_many_arguments)]
-extern "C" {
-    fn mirror_seal(
-        key: *const u8, key_len: usize, address: u64, plain: *const u8, plain_len: usize,
-        local: *mut u8, local_len: usize, remote: *mut u8, remote_len: usize, tag: *mut u8, tag_len: usize,
-    ) -> u32;
-    fn mirror_judge(
-        key: *const u8, key_len: usize, address: u64, local: *const u8, local_len: usize,
-        tag: *const u8, tag_len: usize, remote: *const u8, remote_len: usize, out: *mut u8, out_len: usize,
-    ) -> u32;
-}
-
 struct Sector {
     key: Vec<u8>,
     plain: Vec<u8>,
@@ -31,23 +19,11 @@ impl Sector {
     }
 
     fn proved_seal(&mut self) -> u32 {
-        // SAFETY: each pointer and length is that of one Vec, and no two overlap.
-        unsafe {
-            mirror_seal(
-                self.key.as_ptr(), self.key.len(), 7, self.plain.as_ptr(), self.plain.len(), self.local.as_mut_ptr(), self.local.len(),
-                self.remote.as_mut_ptr(), self.remote.len(), self.tag.as_mut_ptr(), self.tag.len(),
-            )
-        }
+        linked::seal(&self.key, 7, &self.plain, &mut self.local, &mut self.remote, &mut self.tag)
     }
 
     fn proved_judge(&mut self) -> u32 {
-        // SAFETY: as above.
-        unsafe {
-            mirror_judge(
-                self.key.as_ptr(), self.key.len(), 7, self.local.as_ptr(), self.local.len(), self.tag.as_ptr(), self.tag.len(),
-                self.remote.as_ptr(), self.remote.len(), self.out.as_mut_ptr(), self.out.len(),
-            )
-        }
+        linked::judge(&self.key, 7, &self.local, &self.tag, &self.remote, &mut self.out)
     }
 
     fn rust_seal(&mut self) -> u32 {

@@ -10,6 +10,7 @@ pub mod collide;
 pub mod field;
 pub mod frames;
 pub mod hex;
+pub mod history;
 pub mod machine;
 pub mod rng;
 pub mod seal;

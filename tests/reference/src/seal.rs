@@ -329,3 +329,24 @@ fn verdict_of(fits: [bool; 3]) -> Option<Verdict> {
 fn exclusive_or(a: &[Block], b: &[Block]) -> Vec<Block> {
     a.iter().zip(b).map(|(a, b)| a ^ b).collect()
 }
+
+/// The sealing of a plaintext, as bytes.
+#[derive(Clone, Debug, PartialEq, Eq)]
+pub struct Sealed {
+    pub local: Vec<u8>,
+    pub tag: Vec<u8>,
+    pub remote: Vec<u8>,
+}
+
+/// Seals a plaintext under a key, both of which must pass.
+pub fn sealed(key: &[u8], address: u64, plaintext: &[u8]) -> Sealed {
+    let mut sealed = Sealed {
+        local: vec![0; plaintext.len()],
+        tag: vec![0; TAG_BYTES],
+        remote: vec![0; plaintext.len()],
+    };
+    let Sealed { local, tag, remote } = &mut sealed;
+    let answer = seal(key, address, plaintext, local, remote, tag);
+    assert_eq!(answer, Ok(()));
+    sealed
+}

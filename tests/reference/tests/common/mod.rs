@@ -7,29 +7,8 @@ use std::process::{Command, Stdio};
 use reference::field::product;
 use reference::hex;
 use reference::rng::Rng;
-use reference::seal;
 
-/// The sealing of a plaintext, as bytes.
-#[derive(Clone, Debug, PartialEq, Eq)]
-pub struct Sealed {
-    pub local: Vec<u8>,
-    pub tag: Vec<u8>,
-    pub remote: Vec<u8>,
-}
-
-pub fn seal(key: &[u8], address: u64, plaintext: &[u8]) -> Sealed {
-    let mut sealed = Sealed {
-        local: vec![0; plaintext.len()],
-        tag: vec![0; 16],
-        remote: vec![0; plaintext.len()],
-    };
-    let Sealed { local, tag, remote } = &mut sealed;
-    assert_eq!(
-        seal::seal(key, address, plaintext, local, remote, tag),
-        Ok(())
-    );
-    sealed
-}
+pub use reference::seal::{sealed as seal, Sealed};
 
 /// A key of given h with a random AES key.
 pub fn key_with_h(rng: &mut Rng, h: u128) -> Vec<u8> {

@@ -4,5 +4,8 @@ fn main() {
     let library = root.join("target/staticlib");
     println!("cargo:rustc-link-search=native={}", library.display());
     println!("cargo:rustc-link-lib=static=mirror");
-    println!("cargo:rerun-if-changed={}", library.join("libmirror.a").display());
+    println!(
+        "cargo:rerun-if-changed={}",
+        library.join("libmirror.a").display()
+    );
 }

@@ -1,0 +1,47 @@
+//! Every call made twice, by the library and by the independent
+//! implementation: the answer and every lent byte must be the same.
+
+use reference::answer::{Refusal, Success, Verdict};
+use reference::history::{Answer, Calls, Given, Images, Kind, Reference, Request};
+use reference::volume::Survey;
+
+/// The calls of both.
+pub struct Both;
+
+impl Calls for Both {
+    fn run(&self, request: &Request, images: &mut Images, output: &mut [u8]) -> Answer {
+        let (mut lent, mut out) = (images.clone(), output.to_vec());
+        let number = library_run(request, &mut lent, &mut out);
+        let answer = Reference.run(request, images, output);
+        assert_eq!(number, number_of(&answer), "{:?}", request.kind);
+        assert!(lent == *images, "{:?} left other images", request.kind);
+        assert_eq!(out, output, "{:?} left another output", request.kind);
+        answer
+    }
+
+    fn survey(&self, given: &Given, images: &Images, list: &mut [u32]) -> Result<Survey, Refusal> {
+        Reference.survey(given, images, list)
+    }
+}
+
+fn library_run(request: &Request, images: &mut Images, out: &mut [u8]) -> u32 {
+    let Given { key, size, count } = &request.given;
+    let (s, n, i) = (*size, *count, request.number);
+    let Images { local, tag, remote } = images;
+    let plain = &request.plaintext;
+    match request.kind {
+        Kind::Blank => crate::blank(key, s, n, i, local, tag, remote),
+        Kind::First => crate::first_stage(key, s, n, i, plain, local, tag, remote),
+        Kind::Second => crate::second_stage(key, s, n, i, plain, local, tag, remote),
+        Kind::Third => crate::third_stage(key, s, n, i, plain, local, tag, remote),
+        Kind::Mend => crate::mend(key, s, n, i, local, tag, remote),
+        Kind::Read => crate::read(key, s, n, i, local, tag, remote, out),
+    }
+}
+
+fn number_of(answer: &Answer) -> u32 {
+    u32::from(match answer {
+        Ok(found) => found.map_or(0, |verdict: Verdict| verdict.number()),
+        Err(refusal) => refusal.number(),
+    })
+}

@@ -1,0 +1,632 @@
+//! Random histories of volumes, with the plain machine beside them.
+//!
+//! Every event is staged as the rules of a cut and of damage allow, and after
+//! every event each sector is held against what the machine says is kept. The
+//! calls are a parameter, so that any implementation can be put to the test.
+
+use std::collections::BTreeMap;
+
+use crate::answer::{Place, Refusal, Verdict};
+use crate::collide::blind_pair;
+use crate::field::{to_block, to_bytes};
+use crate::machine::{Call, Ending, Event, Machine, Sector};
+use crate::rng::Rng;
+use crate::seal::{sealed, Sealed};
+use crate::volume::Survey;
+use crate::{seal, volume};
+
+const FILL: u8 = 0x5a;
+
+/// What every call on a volume is given.
+#[derive(Clone)]
+pub struct Given {
+    pub key: Vec<u8>,
+    pub size: usize,
+    pub count: usize,
+}
+
+#[derive(Clone, Debug, PartialEq, Eq)]
+pub struct Images {
+    pub local: Vec<u8>,
+    pub tag: Vec<u8>,
+    pub remote: Vec<u8>,
+}
+
+/// What a call on one sector answers; only mend and read find a verdict.
+pub type Answer = Result<Option<Verdict>, Refusal>;
+
+/// An implementation of the calls.
+pub trait Calls {
+    /// Runs a call to its end. `output` is a read's.
+    fn run(&self, request: &Request, images: &mut Images, output: &mut [u8]) -> Answer;
+
+    fn survey(&self, given: &Given, images: &Images, list: &mut [u32]) -> Result<Survey, Refusal>;
+}
+
+/// The calls of this package.
+pub struct Reference;
+
+impl Calls for Reference {
+    fn run(&self, request: &Request, images: &mut Images, output: &mut [u8]) -> Answer {
+        let Given { key, size, count } = &request.given;
+        let (size, count, number) = (*size, *count, request.number);
+        let Images { local, tag, remote } = images;
+        let text = &request.plaintext;
+        let done = |()| None;
+        match request.kind {
+            Kind::Blank => volume::blank(key, size, count, local, tag, remote, number).map(done),
+            Kind::First => {
+                volume::first_stage(key, size, count, local, tag, remote, number, text).map(done)
+            }
+            Kind::Second => {
+                volume::second_stage(key, size, count, local, tag, remote, number, text).map(done)
+            }
+            Kind::Third => {
+                volume::third_stage(key, size, count, local, tag, remote, number, text).map(done)
+            }
+            Kind::Mend => volume::mend(key, size, count, local, tag, remote, number).map(Some),
+            Kind::Read => {
+                volume::read(key, size, count, local, tag, remote, number, output).map(Some)
+            }
+        }
+    }
+
+    fn survey(&self, given: &Given, images: &Images, list: &mut [u32]) -> Result<Survey, Refusal> {
+        let Given { key, size, count } = given;
+        let Images { local, tag, remote } = images;
+        volume::survey(key, *size, *count, local, tag, remote, list)
+    }
+}
+
+impl Images {
+    fn place(&self, size: usize, number: usize, place: Place) -> &[u8] {
+        match place {
+            Place::Local => &self.local[volume::part(number, size)],
+            Place::Tag => &self.tag[volume::part(number, 16)],
+            Place::Remote => &self.remote[volume::part(number, size)],
+        }
+    }
+
+    fn place_mut(&mut self, size: usize, number: usize, place: Place) -> &mut [u8] {
+        match place {
+            Place::Local => &mut self.local[volume::part(number, size)],
+            Place::Tag => &mut self.tag[volume::part(number, 16)],
+            Place::Remote => &mut self.remote[volume::part(number, size)],
+        }
+    }
+}
+
+/// A call without its plaintext.
+#[derive(Clone, Copy, Debug, PartialEq, Eq)]
+pub enum Kind {
+    Blank,
+    First,
+    Second,
+    Third,
+    Mend,
+    Read,
+}
+
+/// A call and all that it takes but the images.
+pub struct Request {
+    pub kind: Kind,
+    pub given: Given,
+    pub number: usize,
+    pub plaintext: Vec<u8>,
+    /// The length of a read's output.
+    pub output: usize,
+}
+
+impl Request {
+    /// The call as the machine is told of it.
+    fn call(&self) -> Call<'_> {
+        match self.kind {
+            Kind::Blank => Call::Blank,
+            Kind::First => Call::FirstStage(&self.plaintext),
+            Kind::Second => Call::SecondStage(&self.plaintext),
+            Kind::Third => Call::ThirdStage(&self.plaintext),
+            Kind::Mend => Call::Mend,
+            Kind::Read => Call::Read,
+        }
+    }
+
+    /// The places that the accepted call writes.
+    fn written(&self, found: Option<Verdict>) -> Vec<Place> {
+        match (self.kind, found) {
+            (Kind::Blank, _) => Place::ALL.to_vec(),
+            (Kind::First, _) => vec![Place::Local],
+            (Kind::Second, _) => vec![Place::Tag],
+            (Kind::Third, _) => vec![Place::Remote],
+            (Kind::Mend, Some(Verdict::Doubtful(place))) => vec![place],
+            (Kind::Mend, _) | (Kind::Read, _) => vec![],
+        }
+    }
+}
+
+/// How often each thing was seen.
+#[derive(Default)]
+pub struct Tally(pub BTreeMap<String, usize>);
+
+impl Tally {
+    fn add(&mut self, what: &str) {
+        *self.0.entry(what.to_string()).or_default() += 1;
+    }
+
+    pub fn get(&self, what: &str) -> usize {
+        self.0.get(what).copied().unwrap_or(0)
+    }
+}
+
+/// A volume with its machine and what the writers of it have in mind.
+struct History<'a> {
+    calls: &'a dyn Calls,
+    rng: Rng,
+    given: Given,
+    images: Images,
+    machine: Machine,
+    /// Plaintexts to choose from, some with equal tags.
+    pool: Vec<Vec<u8>>,
+    /// The plaintext on its way into each sector.
+    drafts: Vec<Vec<u8>>,
+    tally: &'a mut Tally,
+}
+
+impl<'a> History<'a> {
+    fn new(calls: &'a dyn Calls, mut rng: Rng, given: Given, tally: &'a mut Tally) -> Self {
+        let Given { size, count, .. } = given;
+        let pool = make_pool(&mut rng, &given.key, size);
+        let images = Images {
+            local: rng.bytes(count * size),
+            tag: rng.bytes(count * 16),
+            remote: rng.bytes(count * size),
+        };
+        History {
+            calls,
+            rng,
+            images,
+            machine: Machine::new(size, count),
+            drafts: vec![pool[0].clone(); count],
+            pool,
+            given,
+            tally,
+        }
+    }
+
+    fn step(&mut self) {
+        if self.rng.chance(10) {
+            self.damage();
+        } else {
+            let request = self.choose_request();
+            self.call(&request);
+        }
+        for number in 0..self.given.count {
+            self.check(number);
+        }
+        self.check_survey();
+    }
+
+    // Events.
+
+    fn choose_request(&mut self) -> Request {
+        let number = self.rng.below(self.given.count);
+        let kind = self.choose_kind(number);
+        let plaintext = self.choose_plaintext(kind, number);
+        let mut request = Request {
+            kind,
+            given: self.given.clone(),
+            number,
+            plaintext,
+            output: self.given.size,
+        };
+        if self.rng.chance(8) {
+            self.spoil(&mut request);
+        }
+        request
+    }
+
+    fn choose_kind(&mut self, number: usize) -> Kind {
+        if *self.machine.sector(number) == Sector::Gone && self.rng.chance(30) {
+            return Kind::Blank;
+        }
+        match self.rng.below(100) {
+            0..=3 => Kind::Blank,
+            4..=33 => Kind::First,
+            34..=58 => Kind::Second,
+            59..=79 => Kind::Third,
+            80..=91 => Kind::Mend,
+            _ => Kind::Read,
+        }
+    }
+
+    /// Later stages mostly go on with what the first began.
+    fn choose_plaintext(&mut self, kind: Kind, number: usize) -> Vec<u8> {
+        if kind != Kind::First && self.rng.chance(85) {
+            return self.drafts[number].clone();
+        }
+        let plaintext = if self.rng.chance(20) {
+            self.rng.bytes(self.given.size)
+        } else {
+            self.rng.pick(&self.pool).clone()
+        };
+        if kind == Kind::First {
+            self.drafts[number] = plaintext.clone();
+        }
+        plaintext
+    }
+
+    /// Gives the call something that is not the volume's.
+    fn spoil(&mut self, request: &mut Request) {
+        match self.rng.below(8) {
+            0 => request.given.key = self.rng.bytes(31),
+            1 => request.given.key = self.rng.bytes(32),
+            2 => request.given.size += 1,
+            3 => request.given.size += 16,
+            4 => request.given.count += 1,
+            5 => request.given.count = 0,
+            6 => request.number = request.given.count + self.rng.below(3),
+            _ => {
+                request.plaintext.push(0);
+                request.output += 1;
+            }
+        }
+    }
+
+    fn call(&mut self, request: &Request) {
+        let before = self.images.clone();
+        let mut after = before.clone();
+        let outcome = self.run(request, &mut after);
+        let cut = self.rng.chance(30);
+        let Ok(found) = outcome else {
+            assert!(after == before, "a refused call wrote");
+            let tag_is_new = self.rng.chance(50);
+            self.tell(request, ending(cut, tag_is_new), true);
+            return;
+        };
+        if request.given.key != self.given.key {
+            // Only a call that is refused may come with another key.
+            return;
+        }
+        let written = request.written(found);
+        self.insist_on_writes(&before, &after, request.number, &written);
+        if !cut {
+            self.images = after;
+            self.tell(request, Ending::Finished, false);
+            return;
+        }
+        self.images = self.cut(&before, &after, request.number, written);
+        let tag_is_new = if request.kind == Kind::Second {
+            self.images.tag == after.tag
+        } else {
+            self.rng.chance(50)
+        };
+        self.tell(request, ending(true, tag_is_new), false);
+    }
+
+    fn tell(&mut self, request: &Request, ending: Ending, refused: bool) {
+        self.machine.feed(&Event::Call {
+            call: request.call(),
+            number: request.number,
+            ending,
+            refused,
+        });
+        self.tally.add("events");
+        let how = match (refused, ending) {
+            (true, _) => "refused",
+            (false, Ending::Finished) => "finished",
+            (false, Ending::Cut { .. }) => "cut",
+        };
+        self.tally.add(&format!("{:?} {how}", request.kind));
+    }
+
+    /// No byte but those of the places due may differ.
+    fn insist_on_writes(&self, before: &Images, after: &Images, number: usize, written: &[Place]) {
+        let size = self.given.size;
+        let mut due = before.clone();
+        for &place in written {
+            due.place_mut(size, number, place)
+                .copy_from_slice(after.place(size, number, place));
+        }
+        assert!(due == *after, "a call wrote elsewhere");
+    }
+
+    /// What a cut may leave: some of the writes had begun, in any order. A side
+    /// then holds anything, a tag its old or its new value.
+    fn cut(
+        &mut self,
+        before: &Images,
+        after: &Images,
+        number: usize,
+        mut places: Vec<Place>,
+    ) -> Images {
+        let size = self.given.size;
+        let mut images = before.clone();
+        let begun = self.rng.below(places.len() + 1);
+        for _ in 0..begun {
+            let place = places.remove(self.rng.below(places.len()));
+            let new = after.place(size, number, place);
+            let bytes = images.place_mut(size, number, place);
+            let how = self.rng.below(if place == Place::Tag { 2 } else { 5 });
+            match how {
+                0 => {}
+                1 => bytes.copy_from_slice(new),
+                2 => {
+                    let torn = self.rng.below(bytes.len());
+                    bytes[..torn].copy_from_slice(&new[..torn]);
+                }
+                3 => {
+                    let torn = self.rng.below(bytes.len());
+                    bytes[torn..].copy_from_slice(&new[torn..]);
+                }
+                _ => self.rng.fill(bytes),
+            }
+        }
+        images
+    }
+
+    fn damage(&mut self) {
+        let number = self.rng.below(self.given.count);
+        let place = *self.rng.pick(&Place::ALL);
+        let bytes = self.damaged_bytes(number, place);
+        self.images
+            .place_mut(self.given.size, number, place)
+            .copy_from_slice(&bytes);
+        self.machine.feed(&Event::Damage { number, place });
+        self.tally.add("events");
+        self.tally.add("Damage");
+    }
+
+    /// Any bytes: random, nearly right, right, or right for something else.
+    fn damaged_bytes(&mut self, number: usize, place: Place) -> Vec<u8> {
+        let size = self.given.size;
+        let mut bytes = self.images.place(size, number, place).to_vec();
+        match self.rng.below(6) {
+            0 => self.rng.fill(&mut bytes),
+            1 => bytes.fill(0),
+            2 => {
+                let position = self.rng.below(bytes.len());
+                bytes[position] ^= 1 << self.rng.below(8);
+            }
+            3 => {}
+            4 => {
+                let elsewhere = self.rng.below(self.given.count);
+                bytes = self.images.place(size, elsewhere, place).to_vec();
+            }
+            _ => {
+                let plaintext = self.rng.pick(&self.pool).clone();
+                let sealed = sealed(&self.given.key, number as u64, &plaintext);
+                bytes = sealed_place(&sealed, place).to_vec();
+            }
+        }
+        bytes
+    }
+
+    // Checks.
+
+    fn request(&self, kind: Kind, number: usize, plaintext: &[u8]) -> Request {
+        Request {
+            kind,
+            given: self.given.clone(),
+            number,
+            plaintext: plaintext.to_vec(),
+            output: self.given.size,
+        }
+    }
+
+    fn run(&self, request: &Request, images: &mut Images) -> Answer {
+        let mut output = vec![FILL; request.output];
+        self.calls.run(request, images, &mut output)
+    }
+
+    /// Reads, and insists that no image is changed and a refusal leaves the
+    /// output alone.
+    fn read(&self, images: &Images, number: usize) -> Result<(Verdict, Vec<u8>), Refusal> {
+        let request = self.request(Kind::Read, number, &[]);
+        let mut same = images.clone();
+        let mut output = vec![FILL; self.given.size];
+        let answer = self.calls.run(&request, &mut same, &mut output);
+        assert!(same == *images, "a read wrote");
+        match answer {
+            Ok(verdict) => Ok((verdict.expect("a read finds a verdict"), output)),
+            Err(refusal) => {
+                assert!(output.iter().all(|&byte| byte == FILL), "a refusal wrote");
+                Err(refusal)
+            }
+        }
+    }
+
+    /// Mends a copy.
+    fn mend(&self, number: usize) -> (Answer, Images) {
+        let mut images = self.images.clone();
+        let answer = self.run(&self.request(Kind::Mend, number, &[]), &mut images);
+        (answer, images)
+    }
+
+    fn held(&self, number: usize) -> Sealed {
+        let [local, tag, remote] =
+            Place::ALL.map(|place| self.images.place(self.given.size, number, place).to_vec());
+        Sealed { local, tag, remote }
+    }
+
+    fn check(&mut self, number: usize) {
+        match self.machine.sector(number).clone() {
+            Sector::Gone => self.tally.add("seen gone"),
+            Sector::Kept {
+                plaintext,
+                doubt: None,
+            } => self.check_without_doubt(number, plaintext),
+            Sector::Kept {
+                plaintext,
+                doubt: Some(place),
+            } => self.check_in_doubt(number, plaintext, place),
+        }
+    }
+
+    fn check_without_doubt(&mut self, number: usize, plaintext: Vec<u8>) {
+        self.tally.add("seen without doubt");
+        let due = Ok((Verdict::Whole, plaintext));
+        assert_eq!(self.read(&self.images, number), due);
+        let (answer, images) = self.mend(number);
+        assert_eq!(answer, Ok(Some(Verdict::Whole)));
+        assert!(images == self.images);
+        for new in [
+            self.rng.bytes(self.given.size),
+            self.rng.pick(&self.pool).clone(),
+        ] {
+            let mut images = self.images.clone();
+            let first = self.request(Kind::First, number, &new);
+            assert_eq!(self.run(&first, &mut images), Ok(None));
+            let sealed = sealed(&self.given.key, number as u64, &new);
+            let local = images.place(self.given.size, number, Place::Local);
+            assert_eq!(local, sealed.local);
+            self.insist_on_writes(&self.images, &images, number, &[Place::Local]);
+        }
+    }
+
+    fn check_in_doubt(&mut self, number: usize, plaintext: Vec<u8>, place: Place) {
+        let (mended, images) = self.mend(number);
+        if self.another_fits_two(number, &plaintext) {
+            self.tally.add("seen clashing");
+            assert_eq!(self.read(&self.images, number), Err(Refusal::Clashing));
+            assert_eq!(mended, Err(Refusal::Clashing));
+            assert!(images == self.images);
+            return;
+        }
+        let held = self.held(number);
+        let sealed = sealed(&self.given.key, number as u64, &plaintext);
+        let verdict = if sealed_place(&sealed, place) == sealed_place(&held, place) {
+            self.tally.add("seen whole in doubt");
+            Verdict::Whole
+        } else {
+            self.tally.add(&format!("seen doubtful {place:?}"));
+            Verdict::Doubtful(place)
+        };
+        let due = Ok((verdict, plaintext.clone()));
+        assert_eq!(self.read(&self.images, number), due);
+        assert_eq!(mended, Ok(Some(verdict)));
+        let due = Ok((Verdict::Whole, plaintext));
+        assert_eq!(self.read(&images, number), due);
+        self.insist_on_writes(&self.images, &images, number, &[place]);
+    }
+
+    /// Whether a plaintext other than this one fits two places. What can fit
+    /// two places is had from either side with the tag, or from both sides.
+    fn another_fits_two(&self, number: usize, plaintext: &[u8]) -> bool {
+        let (key, address) = (&self.given.key, number as u64);
+        let held = self.held(number);
+        let mut output = vec![0; self.given.size];
+        for (side, sector) in [(0, &held.local), (1, &held.remote)] {
+            let opened = seal::open(key, address, side, sector, &held.tag, &mut output);
+            if opened.is_ok() && output != plaintext {
+                return true;
+            }
+        }
+        assert_eq!(
+            seal::combine(&held.local, &held.remote, &mut output),
+            Ok(())
+        );
+        let sealed = sealed(key, address, &output);
+        sealed.local == held.local && sealed.remote == held.remote && output != plaintext
+    }
+
+    /// The survey says of all sectors what reads say of each.
+    fn check_survey(&mut self) {
+        let count = self.given.count;
+        let mut list = vec![u32::MAX; count];
+        let found = self.calls.survey(&self.given, &self.images, &mut list);
+        let found = found.expect("the volume's own shape");
+        let answers: Vec<_> = (0..count)
+            .map(|number| self.read(&self.images, number).map(|(verdict, _)| verdict))
+            .collect();
+        let whole = |answer: &&_| **answer == Ok(Verdict::Whole);
+        assert_eq!(found.whole, answers.iter().filter(whole).count());
+        let listed: Vec<u32> = (0..count)
+            .filter(|&number| answers[number] != Ok(Verdict::Whole))
+            .map(|number| number as u32)
+            .collect();
+        assert_eq!(list[..listed.len()], listed);
+        assert!(list[listed.len()..].iter().all(|&entry| entry == u32::MAX));
+        let all = found.whole + found.doubtful + found.clashing + found.lost;
+        assert_eq!(all, count);
+    }
+}
+
+fn ending(cut: bool, tag_is_new: bool) -> Ending {
+    if cut {
+        Ending::Cut { tag_is_new }
+    } else {
+        Ending::Finished
+    }
+}
+
+fn sealed_place(sealed: &Sealed, place: Place) -> &[u8] {
+    match place {
+        Place::Local => &sealed.local,
+        Place::Tag => &sealed.tag,
+        Place::Remote => &sealed.remote,
+    }
+}
+
+/// Zeros, random plaintexts, and from two blocks on pairs of equal tags.
+fn make_pool(rng: &mut Rng, key: &[u8], size: usize) -> Vec<Vec<u8>> {
+    let mut pool = vec![vec![0; size], vec![0xff; size]];
+    for _ in 0..2 {
+        pool.push(rng.bytes(size));
+    }
+    if size >= 32 {
+        let rest = vec![0; size / 16];
+        let (one, other) = blind_pair(to_block(&key[..16]), &rest, 1);
+        pool.push(to_bytes(&one));
+        pool.push(to_bytes(&other));
+    }
+    pool
+}
+
+/// Runs histories of `events` events on each of several volumes for each seed,
+/// with keys of any h and of h zero, where all plaintexts share a tag and
+/// clashes abound. Gives how often each thing was seen.
+pub fn run_histories(
+    calls: &dyn Calls,
+    seeds: std::ops::Range<u64>,
+    volumes: &[(usize, usize)],
+    events: usize,
+) -> Tally {
+    let mut tally = Tally::default();
+    for seed in seeds {
+        for &(size, count) in volumes {
+            for h_is_zero in [false, true] {
+                let mut rng = Rng::new(1000 * seed + size as u64 + u64::from(h_is_zero));
+                let mut key = rng.bytes(32);
+                if h_is_zero {
+                    key[..16].fill(0);
+                }
+                let given = Given { key, size, count };
+                let mut history = History::new(calls, rng, given, &mut tally);
+                for _ in 0..events {
+                    history.step();
+                }
+            }
+        }
+    }
+    tally
+}
+
+/// A history that never comes to a case has not tested it.
+pub fn insist_on_variety(tally: &Tally) {
+    for kind in ["Blank", "First", "Second", "Third", "Mend", "Read"] {
+        for how in ["finished", "cut", "refused"] {
+            assert!(tally.get(&format!("{kind} {how}")) > 0, "{kind} {how}");
+        }
+    }
+    for what in [
+        "Damage",
+        "seen gone",
+        "seen without doubt",
+        "seen whole in doubt",
+        "seen doubtful Local",
+        "seen doubtful Tag",
+        "seen doubtful Remote",
+        "seen clashing",
+    ] {
+        assert!(tally.get(what) > 0, "{what}");
+    }
+}
