@@ -8,7 +8,7 @@ use native.Mathlib.Nat.{suc-mul, mul-le-mul-right, le-of-suc-le-suc}
 use mathlib.Core.Path.{subst}
 use native.Mathlib.Omega.{arith}
 use lib.Dec.{eqb, leb}
-use lib.ListN.{length, take, replicate}
+use lib.ListN.{length, take, replicate, length-take, length-replicate}
 use borrow.Author.Tests.{eqb-true, leb-true}
 use Rattle.block.specs.Bytes.{patch}
 use Rattle.block.proofs.Lists.{and-left, and-right}
@@ -71,6 +71,9 @@ take-zeros : (s n : ℕ) → s ≤ n → take {A = ℕ} s (replicate n 0) ≡ re
 take-zeros zero n h = refl
 take-zeros (suc s) zero h = absurd (omega arith)
 take-zeros (suc s) (suc n) h = ap (λ (l : List ℕ). 0 ∷ l) (take-zeros s n (le-of-suc-le-suc h))
+
+pub prefix-size : (s x : ℕ) → s ≤ 4096 → length (take {A = ℕ} s (replicate 4096 x)) ≡ s
+prefix-size s x h = simp (length-take, length-replicate) (omega arith)
 
 pub zeros-are : (s : ℕ) → s ≤ 4096 → take {A = ℕ} s (replicate 4096 0) ≡ replicate s 0
 zeros-are s h = take-zeros s 4096 h

@@ -8,7 +8,7 @@ use Rattle.sector.specs.Answers.{doneOption}
 use Rattle.sector.specs.Calls.{key, triple}
 use Rattle.volume.specs.Lent.{args}
 use Rattle.volume.specs.Volume.{writeAll, blank, isShape, early, mirror}
-use Rattle.volume.proofs.Public.{within, within-length, zeros-are, early-refused, blank-passes}
+use Rattle.volume.proofs.Public.{within, within-length, prefix-size, zeros-are, early-refused, blank-passes}
 use borrow.Author.Needs.{needs}
 use Rattle.volume.proofs.blank.Statement.{statement}
 use Rattle.volume.proofs.blank.Tie as tie
@@ -33,7 +33,7 @@ blank-checked-requires c κs =
     let a = c .before .before .before .before .before .before .before .before .before .before .before .args in
     let ok = c .before .before .before .before .before .before .check .ensures ∙ ap doneOption (c .before .before .before .before .enum-told .given .1) in
     let w = within (triple (a .local .now) (a .tags .now) (a .remote .now)) (args (key (a .key .now)) (a .s) (a .n) (a .i)) blank ok .1 in
-    within-length (triple (a .local .now) (a .tags .now) (a .remote .now)) (args (key (a .key .now)) (a .s) (a .n) (a .i)) blank _ (ap length (zeros-are (a .s) (w .most)) ∙ length-replicate (a .s) 0) ok
+    within-length (triple (a .local .now) (a .tags .now) (a .remote .now)) (args (key (a .key .now)) (a .s) (a .n) (a .i)) blank _ (prefix-size (a .s) _ (w .most)) ok
 
 enum-known-checked : tie.Need-enum-known-checked
 enum-known-checked c = search needs

@@ -1,6 +1,7 @@
 use mathlib.Core.Path.{sym, ap, _∙_}
 use Prim.Native.Nat.{ℕ, _%_}
 use native.Mathlib.Omega.{arith}
+use lib.ListN.{length-take, length-drop}
 use Rattle.volume.proofs.Parts.{part-size}
 use Rattle.volume.proofs.Answers.{parts-judged}
 use borrow.Author.Needs.{needs}
@@ -52,9 +53,8 @@ judge-in-requires c κs =
     let a = s .args in
     let z = s .pre .1 in
     let l = part-size (a .s) (a .i) (a .local .now) (z .local-end) in
-    let g = part-size 16 (a .i) (a .tags .now) (z .tag-end) in
     let r = part-size (a .s) (a .i) (a .remote .now) (z .remote-end) in
-    (record { ready = s .pre .0; blocks = ap (λ (n : ℕ). n % 16) l ∙ z .blocks; most = omega arith; tag-size = g; remote-size = r ∙ sym l; out-size = s .pre .2 ∙ sym l }, s .pre .3 ∙ sym l, s .pre .4 ∙ sym l)
+    (record { ready = s .pre .0; blocks = ap (λ (n : ℕ). n % 16) l ∙ z .blocks; most = omega arith; tag-size = simp (length-take, length-drop) (omega arith); remote-size = r ∙ sym l; out-size = s .pre .2 ∙ sym l }, s .pre .3 ∙ sym l, s .pre .4 ∙ sym l)
 
 same-length : tie.Need-same-length
 same-length c = search needs
