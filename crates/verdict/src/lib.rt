@@ -1,5 +1,5 @@
-// Judging a sector with a prepared key (document 01, "The verdict"), and what every call shares: the answers and the tests of a key and a size.
-// An inner crate: its functions may require what their callers have checked.
+// What calls on a sector and on a volume share: the answers, the tests of a key and a size, and judging a sector and opening a side with
+// a prepared key (document 01, "The verdict"). An inner crate: its functions may require what their callers have checked.
 use aes::Table;
 use block::Block;
 use mode::Context;
