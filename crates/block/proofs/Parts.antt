@@ -22,8 +22,8 @@ bytes-patch w i image b h g =
     (bytes-append b (drop (i * w + w) image) g (bytes-drop (i * w + w) image h))
 
 -- part i of n parts of w ends within the n
-within : (w n i : ℕ) → i < n → i * w + w ≤ n * w
-within w n i h = subst (λ (m : ℕ). m ≤ n * w) (suc-mul i w) (mul-le-mul-right w h)
+pub part-end : (w n i : ℕ) → i < n → i * w + w ≤ n * w
+part-end w n i h = subst (λ (m : ℕ). m ≤ n * w) (suc-mul i w) (mul-le-mul-right w h)
 
 getD′ : List ℕ → ℕ → ℕ
 getD′ l k = getD l k 0
@@ -38,15 +38,15 @@ ne-lt j i ne = go (decLt j i)
 module _ (w n i : ℕ) (lt : i < n) (image : List ℕ) (long : length image ≡ n * w) where
   pub length-part : length (part w i image) ≡ w
   unfolding part
-  length-part = simp (length-take, length-drop) (omega (arith, within w n i lt))
+  length-part = simp (length-take, length-drop) (omega (arith, part-end w n i lt))
 
   head-long : length (take (i * w) image) ≡ i * w
-  head-long = length-take-le (i * w) image (omega (arith, within w n i lt))
+  head-long = length-take-le (i * w) image (omega (arith, part-end w n i lt))
 
   module _ (b : List ℕ) (wide : length b ≡ w) where
     pub length-patch : length (patch w i b image) ≡ n * w
     unfolding patch
-    length-patch = simp (length-append, length-drop) (omega (arith, within w n i lt, head-long))
+    length-patch = simp (length-append, length-drop) (omega (arith, part-end w n i lt, head-long))
 
     pub part-patch : part w i (patch w i b image) ≡ b
     unfolding part patch
@@ -81,8 +81,8 @@ module _ (w n i : ℕ) (lt : i < n) (image : List ℕ) (long : length image ≡ 
         (λ k h. elements k (omega (arith, simp (length-take, length-drop) at h)))
       where
         apart : (k : ℕ) → k < w → (j < i) ⊎ (i < j) → getD (patch w i b image) (j * w + k) 0 ≡ getD image (j * w + k) 0
-        apart k h (inl l) = getD-before (j * w + k) (omega (arith, within w i j l))
-        apart k h (inr l) = getD-behind (j * w + k) (omega (arith, within w j i l))
+        apart k h (inl l) = getD-before (j * w + k) (omega (arith, part-end w i j l))
+        apart k h (inr l) = getD-behind (j * w + k) (omega (arith, part-end w j i l))
 
         elements : (k : ℕ) → k < w → getD (take w (drop (j * w) (patch w i b image))) k 0 ≡ getD (take w (drop (j * w) image)) k 0
         elements k h =

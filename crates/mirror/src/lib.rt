@@ -1,13 +1,14 @@
 // The C interface. Each function's contract is that of the call that it names, with the answer as document 01's number: 0 for whole or done,
 // 81, 82 or 83 (hexadecimal) for doubt at local, tag or remote, or the refusal.
-use sector::Done;
-use sector::Judged;
-use sector::Place;
-use sector::Refusal;
+use verdict::Done;
+use verdict::Judged;
+use verdict::Place;
+use verdict::Refusal;
 ghost use mathlib.Core.Path.{_≡_};
-ghost use Rattle.sector.specs.Answers.{refusalNumber, placeNumber, doneNumber, judgedNumber};
-ghost use Rattle.sector.specs.Calls.{key, triple, sealCall, judgeCall, openCall, rebuildCall, combineCall};
-ghost use Rattle.sector.specs.Calls as C;
+ghost use Rattle.verdict.specs.Answers.{refusalNumber, placeNumber, doneNumber, judgedNumber};
+ghost use Rattle.verdict.specs.Judging.{key, triple};
+ghost use Rattle.sector.specs.Calls.{sealCall, judgeCall, openCall, rebuildCall, combineCall};
+ghost use Rattle.verdict.specs.Judging as C;
 ghost use Rattle.volume.specs.Lent.{args};
 ghost use Rattle.volume.specs.Volume.{outcome, readOutcome};
 ghost use Rattle.volume.specs.Volume as W;

@@ -1,27 +1,25 @@
 -- The mode is lawful: both sides are undone, and local ⊕ remote is the plaintext. Assumes nothing.
 use mathlib.Core.Path.{_≡_, sym, ap, ap₂, _∙_}
-use mathlib.Core.Bool.{true, _&&_}
 use mathlib.Core.List.{List, [], _∷_, _++_}
 use Prim.Native.Nat.{ℕ, _+_, _-_, _*_, _/_, _%_, _^_, _<_}
 use native.Mathlib.Numerals.{add-one}
-use lib.Dec.{eqb, leb}
 use native.Mathlib.Nat.{zero-add}
 use native.Mathlib.Omega.{arith}
 use lib.ListN.{length, take, drop, replicate, length-drop}
 use lib.Seq.{take-all}
 use lib.Bits.{bitXor, xor-comm, xor-lt}
-use borrow.Author.Tests.{eqb-true}
 use Rattle.block.specs.Bytes.{Plain, number, fromBytes, toBytes, blocksOf, xorBytes}
 use Rattle.block.specs.Field.{double, mul, x⁻¹, 1⊕x⁻¹}
 use Rattle.block.proofs.Bits.{xor-assoc, xor-cancel}
 use Rattle.block.proofs.Field.{mul-lt, mul-two-l, mul-three-l, x-inverse, x⁻¹-inverse, 1⊕x-inverse, 1⊕x⁻¹-inverse}
-use Rattle.block.proofs.Lists.{and-right, xor-bytes-comm, xor-bytes-cancel}
+use Rattle.block.proofs.Lists.{xor-bytes-comm, xor-bytes-cancel}
 use Rattle.block.proofs.Numbers.{number-append, from-to, bytes-toBytes, length-toBytes}
 use Rattle.hash.specs.Brw.{brw}
 use Rattle.aes.specs.Aes.{expand, cipherNumber}
 use Rattle.aes.proofs.Bounds.{cipher-lt}
 use Rattle.mode.specs.Sealing.{cipherKey, roundKeys, hashKey, tweak, timesX, blockwise, tagBlock, pad, localBlock, remoteBlock, openLocalBlock, openRemoteBlock, sides, sealedBy}
-use Rattle.mode.specs.Scheme.{Place, local, tag, remote, on, wide, isSize, Lawful, Sound, dcm, scheme}
+use Rattle.mode.specs.Scheme.{Place, local, tag, remote, on, wide, Lawful, Sound, dcm, scheme}
+use Rattle.mode.proofs.Sizes.{size-whole}
 use Rattle.mode.proofs.Blockwise.{blocksOf-below, plain-blockwise, blocks-back, undone, summed}
 
 module _ (E : ℕ → ℕ) (E-lt : (x : ℕ) → E x < 2 ^ 128) where
@@ -146,11 +144,6 @@ module _ (E : ℕ → ℕ) (E-lt : (x : ℕ) → E x < 2 ^ 128) where
 
       tag-from : (h T : ℕ) (P g : List ℕ) → toBytes 16 (tagBlock E h T P) ≡ g → tagBlock E h T P ≡ fromBytes g
       tag-from h T P g e = sym (tag-back h T P) ∙ ap fromBytes e
-
--- a size is a multiple of 16
-pub size-whole : (s : ℕ) → isSize s ≡ true → s % 16 ≡ 0
-unfolding isSize
-size-whole s e = eqb-true (s % 16) 0 (and-right (leb s 4096) (eqb (s % 16) 0) (and-right (leb 16 s) (leb s 4096 && eqb (s % 16) 0) e))
 
 pub sound : Sound scheme
 unfolding scheme

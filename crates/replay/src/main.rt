@@ -4,14 +4,14 @@
 // number and leaves every byte of those slices so.
 use libc::STDIN_FILENO;
 use libc::STDOUT_FILENO;
-use sector::Done;
-use sector::Judged;
-use sector::Place;
-use sector::Refusal;
+use verdict::Done;
+use verdict::Judged;
+use verdict::Place;
+use verdict::Refusal;
 ghost use mathlib.Core.Path.{_≡_};
 ghost use Prim.Native.Nat.{_+_, _*_, _≤_, _<_};
 ghost use lib.ListN.{length};
-ghost use Rattle.sector.specs.Answers.{refusalNumber, placeNumber, judgedNumber, doneNumber};
+ghost use Rattle.verdict.specs.Answers.{refusalNumber, placeNumber, judgedNumber, doneNumber};
 
 const SEAL: u8 = 0;
 

@@ -10,14 +10,13 @@ use Rattle.block.specs.Bytes.{Plain}
 use Rattle.mode.specs.Sealing.{Key, Triple, tweak, sealed}
 use Rattle.mode.specs.Scheme.{Place, local, tag, remote, on, wide, isKey, isSize, Lawful, dcm, scheme}
 use Rattle.mode.proofs.Laws.{sound}
-use Rattle.sector.specs.Answers.{firstOf}
-use Rattle.sector.specs.Calls.{keyRules, sizeRules, sideRules, openCall, rebuildCall, combineCall}
+use Rattle.verdict.specs.Answers.{firstOf, keyRules}
+use Rattle.sector.specs.Calls.{sizeRules, sideRules, openCall, rebuildCall, combineCall}
 use Rattle.sector.specs.Demand2.{sideNumber, Demand2-whole}
-use Rattle.sector.specs.Verdict.{Fits, Side, localSide, remoteSide, placeOf, otherSide, opened}
-use Rattle.sector.proofs.JudgeExact.{FitsBut, but-local, but-tag, but-remote, one-for-a-pair, judge-exact}
-use Rattle.sector.proofs.OpenExact.{opened-some, open-exact}
-use Rattle.sector.proofs.Opened.{opened-by, open-passes, rebuild-passes}
-use Rattle.sector.proofs.Public.{combine-passes}
+use Rattle.verdict.specs.Verdict.{Fits, Side, localSide, remoteSide, placeOf, otherSide, opened}
+use Rattle.verdict.proofs.JudgeExact.{FitsBut, but-local, but-tag, but-remote, one-for-a-pair, judge-exact}
+use Rattle.verdict.proofs.OpenExact.{opened-some, open-exact}
+use Rattle.sector.proofs.Public.{opened-by, open-passes, rebuild-passes, combine-passes}
 
 sizes-pass : (s x y g : ℕ) → isSize s ≡ true → x ≡ s → y ≡ s → g ≡ 16 → firstOf (sizeRules s x y g) ≡ none
 sizes-pass s x y g es ex ey eg = simp (es, eq-eqb x s ex, eq-eqb y s ey, eq-eqb g 16 eg)

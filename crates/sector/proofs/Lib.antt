@@ -1,11 +1,5 @@
-pub mod JudgeExact
-pub mod OpenExact
-pub mod Cases
 pub mod Checks
-pub mod Sides
-pub mod Judging
 pub mod Prepared
 pub mod Public
-pub mod Opened
 pub mod Marked
 pub mod Demand2

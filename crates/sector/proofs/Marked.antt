@@ -21,10 +21,10 @@ use Rattle.hash.proofs.BrwLaws.{hash-facts}
 use Rattle.mode.specs.Sealing.{Triple, hashKey, roundKeys, tweak, tagBlock, pad, localBlock, remoteBlock, sides, sealedBy, sealed}
 use Rattle.mode.specs.Scheme.{Place, local, tag, remote, on, wide, Sector, Scheme, Lawful, dcm, scheme}
 use Rattle.mode.proofs.Laws.{dcm-lawful}
-use Rattle.sector.specs.Calls.{key, triple}
+use Rattle.verdict.specs.Judging.{key, triple}
 use Rattle.sector.specs.Marked.{Marked, first, second}
-use Rattle.sector.specs.Verdict.{clashing, judge}
-use Rattle.sector.proofs.JudgeExact.{but-remote, but-local, but-two, judge-exact}
+use Rattle.verdict.specs.Verdict.{clashing, judge}
+use Rattle.verdict.proofs.JudgeExact.{but-remote, but-local, but-two, judge-exact}
 
 row-g-local : (g j : ℕ) → localBlock (λ x. 0) g j 0x80000000000000000000000000000000 ≡ 0x80000000000000000000000000000087
 unfolding localBlock pad mul horner double times

@@ -1,4 +1,4 @@
--- A key prepared once is the key of the specification. Assumes nothing.
+-- What is worked out with a key prepared once is what the calls' definitions have under that key. Assumes nothing.
 use mathlib.Core.Path.{_≡_, ap₂, ap, _∙_}
 use mathlib.Core.List.{List, [], _++_, append-nil}
 use Prim.Native.Nat.{ℕ, _+_}
@@ -11,48 +11,38 @@ use Rattle.aes.specs.Columns.{roundTable}
 use Rattle.hash.specs.Powers.{keyOf}
 use Rattle.mode.specs.declared.Context.{Context}
 use Rattle.mode.specs.declared.Prepared.{Prepared}
-use Rattle.mode.specs.Prepared.{PreparedFor, Ready}
+use Rattle.mode.specs.Prepared.{PreparedFor}
 use Rattle.mode.specs.Scheme.{on, Scheme, dcm, scheme}
 use Rattle.mode.specs.Sealing.{tweak, tagBlock, sides, sealedBy, sealed}
-use Rattle.sector.specs.Calls.{key, triple, sideOf, verdictOutcome, openOutcome}
-use Rattle.sector.specs.Judging.{schemeOf, Sizes, Lent, judgedBy}
-use Rattle.sector.specs.Verdict.{placeOf, otherSide, opened, judge}
+use Rattle.verdict.specs.Judging.{key, triple, schemeOf, verdictOutcome, Lent, judgedBy}
+use Rattle.verdict.specs.Verdict.{placeOf, otherSide, sideOf, opened, judge}
+use Rattle.verdict.proofs.Prepared.{ContextOf, scheme-is, ready-of}
+use Rattle.sector.specs.Calls.{openOutcome}
+use Rattle.sector.specs.Sizes.{Sizes}
 
--- the context m of the prepared key r at an address
-abbrev pub ContextOf : Prepared → Context → ℕ → Type 0
-ContextOf r m address = (value (m .alpha) ≡ value (r .alpha)) × (value (m .beta) ≡ value (r .beta)) × (value (m .tweak) ≡ tweak address)
+module _ (k : List ℕ) (r : Prepared) (e : PreparedFor k r) (m : Context) (address : ℕ) (em : ContextOf r m address) where
+  pub lent-of : {t : List ℕ} → t ≡ roundTable → (l g x out : List ℕ) → Sizes (length l) (length x) (length out) (length g) → Lent t (r .words) (r .powers) m l g x out
+  lent-of et l g x out z = record { ready = ready-of k r e m address em et; blocks = z .blocks; most = z .most; tag-size = z .tag-size; remote-size = z .first; out-size = z .second }
 
-module _ (k : List ℕ) (r : Prepared) (e : PreparedFor k r) where
-  pub scheme-is : schemeOf (r .words) (r .powers) ≡ scheme (key k)
-  unfolding scheme
-  scheme-is = ap₂ (λ (w : List ℕ) (h : ℕ). dcm (cipherNumber w) h) (e .round-keys) (e .hash-key)
+  pub judged-is : (l g x out : List ℕ) → judgedBy (r .words) (r .powers) m l g x out ≡ verdictOutcome (judge (scheme (key k)) (tweak address) (triple l g x)) out
+  judged-is l g x out = ap₂ (λ (S : Scheme) (T : ℕ). verdictOutcome (judge S T (triple l g x)) out) (scheme-is k r e) (em .2)
 
-  module _ (m : Context) (address : ℕ) (em : ContextOf r m address) where
-    pub ready-of : {t : List ℕ} → t ≡ roundTable → Ready t (r .words) (r .powers) m
-    ready-of et = record { table = et; rounds = e .rounds; powers = e .powers; alpha = em .0 ∙ e .alpha; beta = em .1 ∙ e .beta }
+  -- sealing with the prepared key
+  pub scheme-sealed : (P : List ℕ) → schemeOf (r .words) (r .powers) .sealed (value (m .tweak)) P ≡ sealed (key k) address P
+  unfolding sealed scheme dcm
+  scheme-sealed P = ap₂ (λ (S : Scheme) (T : ℕ). S .sealed T P) (scheme-is k r e) (em .2)
 
-    pub lent-of : {t : List ℕ} → t ≡ roundTable → (l g x out : List ℕ) → Sizes (length l) (length x) (length out) (length g) → Lent t (r .words) (r .powers) m l g x out
-    lent-of et l g x out z = record { ready = ready-of et; blocks = z .blocks; most = z .most; tag-size = z .tag-size; remote-size = z .first; out-size = z .second }
+  -- opening and rebuilding with it
+  pub opened-is : (d : ℕ) (x g out : List ℕ)
+      → openOutcome (λ P. P) (opened (schemeOf (r .words) (r .powers)) (value (m .tweak)) (sideOf d) g x) out ≡ openOutcome (λ P. P) (opened (scheme (key k)) (tweak address) (sideOf d) g x) out
+  opened-is d x g out = ap₂ (λ (S : Scheme) (T : ℕ). openOutcome (λ P. P) (opened S T (sideOf d) g x) out) (scheme-is k r e) (em .2)
 
-    pub judged-is : (l g x out : List ℕ) → judgedBy (r .words) (r .powers) m l g x out ≡ verdictOutcome (judge (scheme (key k)) (tweak address) (triple l g x)) out
-    judged-is l g x out = ap₂ (λ (S : Scheme) (T : ℕ). verdictOutcome (judge S T (triple l g x)) out) scheme-is (em .2)
-
-    -- sealing with the prepared key
-    pub scheme-sealed : (P : List ℕ) → schemeOf (r .words) (r .powers) .sealed (value (m .tweak)) P ≡ sealed (key k) address P
-    unfolding sealed scheme dcm
-    scheme-sealed P = ap₂ (λ (S : Scheme) (T : ℕ). S .sealed T P) scheme-is (em .2)
-
-    -- opening and rebuilding with it
-    pub opened-is : (d : ℕ) (x g out : List ℕ)
-        → openOutcome (λ P. P) (opened (schemeOf (r .words) (r .powers)) (value (m .tweak)) (sideOf d) g x) out ≡ openOutcome (λ P. P) (opened (scheme (key k)) (tweak address) (sideOf d) g x) out
-    opened-is d x g out = ap₂ (λ (S : Scheme) (T : ℕ). openOutcome (λ P. P) (opened S T (sideOf d) g x) out) scheme-is (em .2)
-
-    pub rebuilt-is : (d : ℕ) (x g out : List ℕ)
-        → openOutcome (λ P. on (schemeOf (r .words) (r .powers) .sealed (value (m .tweak)) P) (placeOf (otherSide (sideOf d)))) (opened (schemeOf (r .words) (r .powers)) (value (m .tweak)) (sideOf d) g x) out
-        ≡ openOutcome (λ P. on (sealed (key k) address P) (placeOf (otherSide (sideOf d)))) (opened (scheme (key k)) (tweak address) (sideOf d) g x) out
-    unfolding sealed scheme dcm
-    rebuilt-is d x g out =
-        ap₂ (λ (S : Scheme) (T : ℕ). openOutcome (λ P. on (S .sealed T P) (placeOf (otherSide (sideOf d)))) (opened S T (sideOf d) g x) out) scheme-is (em .2)
+  pub rebuilt-is : (d : ℕ) (x g out : List ℕ)
+      → openOutcome (λ P. on (schemeOf (r .words) (r .powers) .sealed (value (m .tweak)) P) (placeOf (otherSide (sideOf d)))) (opened (schemeOf (r .words) (r .powers)) (value (m .tweak)) (sideOf d) g x) out
+      ≡ openOutcome (λ P. on (sealed (key k) address P) (placeOf (otherSide (sideOf d)))) (opened (scheme (key k)) (tweak address) (sideOf d) g x) out
+  unfolding sealed scheme dcm
+  rebuilt-is d x g out =
+      ap₂ (λ (S : Scheme) (T : ℕ). openOutcome (λ P. on (S .sealed T P) (placeOf (otherSide (sideOf d)))) (opened S T (sideOf d) g x) out) (scheme-is k r e) (em .2)
 
 -- three places that are written make the sealed sector
 pub sealed-is : (w p : List ℕ) (T : ℕ) (P old : List ℕ) → length old ≡ 16 → (g : ℕ) → g ≡ tagBlock (cipherNumber w) (keyOf p) T P

@@ -3,25 +3,17 @@
 use mathlib.Core.Bool.{not, _&&_, _||_}
 use mathlib.Core.List.{List, [], _∷_, _++_}
 use mathlib.Core.Option.{Option, none, some}
-use Prim.Native.Nat.{ℕ, zero, suc}
+use Prim.Native.Nat.{ℕ}
 use lib.Dec.{eqb}
 use lib.ListN.{length}
 use Rattle.block.specs.Bytes.{xorBytes}
 use Rattle.mode.specs.Sealing.{Key, Triple, tweak, sealed}
-use Rattle.mode.specs.Scheme.{on, isKey, isSize, scheme}
-use Rattle.sector.specs.Verdict.{Verdict, whole, doubtful, lost, clashing, judge, Side, localSide, remoteSide, placeOf, otherSide, opened}
-use Rattle.sector.specs.Answers.{Rule, rule, firstOf, settle, doubtNumber}
+use Rattle.mode.specs.Scheme.{on, isSize, scheme}
+use Rattle.verdict.specs.Verdict.{judge, placeOf, otherSide, sideOf, opened}
+use Rattle.verdict.specs.Answers.{Rule, rule, firstOf, keyRules, settle}
+use Rattle.verdict.specs.Judging.{verdictOutcome}
 
-abbrev pub key : List ℕ → Key
-key b = record { bytes = b }
-
-abbrev pub triple : List ℕ → List ℕ → List ℕ → Triple
-triple l g r = record { local = l; tag = g; remote = r }
-
--- ---- refusals 1, 2 and 3
-
-abbrev pub keyRules : Key → List Rule
-keyRules k = rule 1 (not (isKey k)) ∷ []
+-- ---- refusals 2 and 3
 
 -- the size s, two lengths that must equal it, and a tag's length
 abbrev pub sizeRules : ℕ → ℕ → ℕ → ℕ → List Rule
@@ -37,12 +29,6 @@ sealCall k address P out =
 
 -- ---- judge, with the output before
 
-abbrev pub verdictOutcome : Verdict → List ℕ → ℕ × List ℕ
-verdictOutcome (whole P) out = (0, P)
-verdictOutcome (doubtful p P) out = (doubtNumber p, P)
-verdictOutcome lost out = (6, out)
-verdictOutcome clashing out = (7, out)
-
 unfoldable pub judgeCall : Key → ℕ → Triple → List ℕ → ℕ × List ℕ
 judgeCall k address t out =
     settle
@@ -53,10 +39,6 @@ judgeCall k address t out =
 
 abbrev pub sideRules : ℕ → List Rule
 sideRules d = rule 4 (not (eqb d 0 || eqb d 1)) ∷ []
-
-abbrev pub sideOf : ℕ → Side
-sideOf zero = localSide
-sideOf (suc d) = remoteSide
 
 -- f says what is written of the plaintext found
 abbrev pub openOutcome : (List ℕ → List ℕ) → Option (List ℕ) → List ℕ → ℕ × List ℕ

@@ -9,7 +9,7 @@ use Rattle.block.specs.Bytes.{Plain}
 use Rattle.mode.specs.Sealing.{Key, Triple, sealed}
 use Rattle.mode.specs.Scheme.{Place, on, isKey, isSize, scheme}
 use Rattle.sector.specs.Calls.{openCall, rebuildCall, combineCall}
-use Rattle.sector.specs.Verdict.{Fits, Side, localSide, remoteSide, placeOf, otherSide, JudgeExact, OpenExact}
+use Rattle.verdict.specs.Verdict.{Fits, Side, localSide, remoteSide, placeOf, otherSide, JudgeExact, OpenExact}
 
 -- the number of a side
 abbrev pub sideNumber : Side → ℕ

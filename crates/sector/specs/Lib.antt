@@ -1,6 +1,4 @@
-pub mod Verdict
-pub mod Answers
 pub mod Calls
-pub mod Judging
+pub mod Sizes
 pub mod Marked
 pub mod Demand2

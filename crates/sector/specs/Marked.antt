@@ -9,8 +9,8 @@ use Rattle.aes.specs.Aes.{sBoxTable}
 use Rattle.hash.specs.Brw.{brw}
 use Rattle.mode.specs.Sealing.{tweak, localBlock, remoteBlock, sealed}
 use Rattle.mode.specs.Scheme.{scheme}
-use Rattle.sector.specs.Calls.{key, triple}
-use Rattle.sector.specs.Verdict.{clashing, judge}
+use Rattle.verdict.specs.Judging.{key, triple}
+use Rattle.verdict.specs.Verdict.{clashing, judge}
 
 -- row (h)'s plaintexts of two blocks: the hash key H and then 0, and then 1
 abbrev pub first : List ℕ → List ℕ

@@ -5,7 +5,7 @@ use Prim.Native.Nat.{ℕ, _+_, _*_, _-_}
 use borrow.Rule.Slice.PartMut.{midOf}
 use Rattle.block.specs.Bytes.{part}
 use Rattle.mode.specs.declared.Context.{Context}
-use Rattle.sector.specs.Judging.{judgedBy}
+use Rattle.verdict.specs.Judging.{judgedBy}
 use Rattle.volume.proofs.Parts.{lent-part}
 
 -- the parts that are lent are the sector's

@@ -8,12 +8,12 @@ use lib.ListN.{length}
 use Rattle.block.specs.Bytes.{Bytes, Plain, part, patch}
 use Rattle.mode.specs.Sealing.{Triple, Key}
 use Rattle.mode.specs.Scheme.{Place, local, tag, remote, on, wide, Scheme, Sector, Lawful, Sound}
-use Rattle.sector.specs.Verdict.{Fits, Means, judge}
+use Rattle.verdict.specs.Verdict.{Fits, Means, judge}
 use Rattle.volume.specs.Volume.{sectorOf, store, write, writeAll, Args, Call, first, second, third, read, writes, unless, sector, sealing, refusal, after}
 use Rattle.volume.specs.Machine.{Fate, finished, lands, Held, step, told, Images, Lent, Cuts, leavesCall}
 use Rattle.volume.specs.History.{Agree, AnyBytes}
 use Rattle.block.proofs.Parts.{bytes-part, bytes-patch, length-part, length-patch, part-patch, part-other}
-use Rattle.sector.proofs.JudgeExact.{same-place, judge-means}
+use Rattle.verdict.proofs.JudgeExact.{same-place, judge-means}
 use Rattle.volume.proofs.Refusals.{Common, refusal-none, accepted-passed, accepted-images, sized}
 use Rattle.volume.proofs.Sector.{on-store, on-store-other, storeAll, sectorAfter, AllPlain, writes-plain, keeps}
 
@@ -32,7 +32,7 @@ bytes-write s i p b v h g q = go (same-place q p)
         (subst Bytes (sym (on-store p (patch (wide s p) i b (on v p)) v)) (bytes-patch (wide s p) i (on v p) b (h p) g))
     go (inr n) = subst Bytes (sym (on-store-other p q (patch (wide s p) i b (on v p)) v n)) (h q)
 
--- "blank three in any order": writes to two places may change places
+-- writes to two different places give the same images in either order, so the order of the writes in a blank does not matter
 pub write-swap : (s i : ℕ) (p q : Place) → (p ≡ q → ⊥) → (b c : List ℕ) (v : Triple) → write s i q c (write s i p b v) ≡ write s i p b (write s i q c v)
 write-swap s i local local n b c v = absurd (n refl)
 write-swap s i local tag n b c v = refl
@@ -117,7 +117,7 @@ module _ (seals : Key → Scheme) (v : Triple) (a : Args) (c : Call) where
   pub after-refused : (k : ℕ) → refusal seals v a c ≡ some k → after seals v a c ≡ v
   after-refused k e = sym after-finished ∙ leaves-refused finished k e
 
--- "Each stage writes only its own sector's part of one image."
+-- an accepted stage is one write: to the place that is its own, in the sector that it names
 module _ (seals : Key → Scheme) (v : Triple) (a : Args) (P : List ℕ) where
   pub after-first : refusal seals v a (first P) ≡ none → after seals v a (first P) ≡ write (a .size) (a .number) local (sealing seals a .sealed (a .number) P .local) v
   after-first e = after-accepted seals v a (first P) e

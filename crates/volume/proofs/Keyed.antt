@@ -9,10 +9,9 @@ use Rattle.mode.specs.declared.Prepared.{Prepared}
 use Rattle.mode.specs.Prepared.{PreparedFor}
 use Rattle.mode.specs.Scheme.{on, Scheme, scheme}
 use Rattle.mode.specs.Sealing.{Triple, tweak}
-use Rattle.sector.specs.Calls.{key, verdictOutcome}
-use Rattle.sector.specs.Judging.{schemeOf, judgedBy}
-use Rattle.sector.specs.Verdict.{fits, fitsTwo, candidate, grade, judge}
-use Rattle.sector.proofs.Prepared.{ContextOf, scheme-is}
+use Rattle.verdict.specs.Judging.{key, verdictOutcome, schemeOf, judgedBy}
+use Rattle.verdict.specs.Verdict.{fits, fitsTwo, candidate, grade, judge}
+use Rattle.verdict.proofs.Prepared.{ContextOf, scheme-is}
 use Rattle.volume.specs.Lent.{placesOf, firstOutcome, secondOutcome, thirdOutcome, mendOutcome}
 use Rattle.volume.specs.Volume.{blank, writes, writeAll, mirror}
 

@@ -5,15 +5,15 @@ use Prim.Native.Nat.{ℕ}
 use native.Mathlib.Omega.{arith}
 use Rattle.mode.specs.Scheme.{Place, local, tag, remote, on, Scheme}
 use Rattle.mode.specs.Sealing.{Triple}
-use Rattle.sector.specs.declared.Judged.{Judged}
-use Rattle.sector.specs.declared.Judged.the-variants as J
-use Rattle.sector.specs.declared.Place as D
-use Rattle.sector.specs.declared.Place.the-variants.{Local, Tag, Remote}
-use Rattle.sector.specs.declared.Refusal.{Refusal}
-use Rattle.sector.specs.declared.Refusal.the-variants.{KeyLength, SectorSize, OtherLength, UnknownSide, NoneFits, Lost, Clashing, VolumeShape, SectorNumber, StageOrder, ListLength}
-use Rattle.sector.specs.Answers.{doubtNumber, refusalNumber, placeNumber, judgedNumber}
-use Rattle.sector.specs.Calls.{verdictOutcome}
-use Rattle.sector.specs.Verdict.{Verdict, whole, doubtful, lost, clashing}
+use Rattle.verdict.specs.declared.Judged.{Judged}
+use Rattle.verdict.specs.declared.Judged.the-variants as J
+use Rattle.verdict.specs.declared.Place as D
+use Rattle.verdict.specs.declared.Place.the-variants.{Local, Tag, Remote}
+use Rattle.verdict.specs.declared.Refusal.{Refusal}
+use Rattle.verdict.specs.declared.Refusal.the-variants.{KeyLength, SectorSize, OtherLength, UnknownSide, NoneFits, Lost, Clashing, VolumeShape, SectorNumber, StageOrder, ListLength}
+use Rattle.verdict.specs.Answers.{doubtNumber, refusalNumber, placeNumber, judgedNumber}
+use Rattle.verdict.specs.Judging.{verdictOutcome}
+use Rattle.verdict.specs.Verdict.{Verdict, whole, doubtful, lost, clashing}
 use Rattle.volume.specs.Lent.{placeNamed, verdictNumber, mendOutcome}
 use Rattle.volume.specs.Volume.{write}
 

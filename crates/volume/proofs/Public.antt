@@ -1,22 +1,23 @@
 -- The calls' outcomes where the early checks refuse, and where they pass. Assumes nothing.
-use mathlib.Core.Path.{_≡_, refl, sym, ap, ap₂, _∙_}
+use mathlib.Core.Path.{_≡_, refl, sym, ap, ap₂, _∙_, subst}
 use mathlib.Core.Bool.{Bool, true, false, not, _&&_}
 use mathlib.Core.List.{List, [], _∷_}
 use mathlib.Core.Option.{Option, none, some}
-use Prim.Native.Nat.{ℕ, zero, suc, _+_, _*_, _<_, _≤_, _%_}
-use native.Mathlib.Nat.{suc-mul, mul-le-mul-right, le-of-suc-le-suc}
-use mathlib.Core.Path.{subst}
+use Prim.Native.Nat.{ℕ, zero, suc, _≤_}
+use native.Mathlib.Nat.{le-of-suc-le-suc}
 use native.Mathlib.Omega.{arith}
-use lib.Dec.{eqb, leb}
+use lib.Dec.{leb}
 use lib.ListN.{length, take, replicate, length-take, length-replicate}
-use borrow.Author.Tests.{eqb-true, leb-true}
+use borrow.Author.Tests.{leb-true}
 use Rattle.block.specs.Bytes.{patch}
 use Rattle.block.proofs.Lists.{and-left, and-right}
-use Rattle.mode.specs.Scheme.{local, tag, remote, on, isKey, isSize, Scheme}
-use Rattle.mode.specs.Sealing.{Key, Triple}
-use Rattle.sector.specs.Answers.{rule, firstOf}
-use Rattle.sector.specs.Calls.{verdictOutcome}
-use Rattle.sector.specs.Verdict.{Verdict, whole, doubtful, lost, clashing, fits, judge}
+use Rattle.block.proofs.Parts.{part-end}
+use Rattle.mode.specs.Scheme.{local, tag, remote, on, Scheme}
+use Rattle.mode.specs.Sealing.{Triple}
+use Rattle.mode.proofs.Sizes.{key-size, size-whole, size-le}
+use Rattle.verdict.specs.Answers.{rule, firstOf}
+use Rattle.verdict.specs.Judging.{verdictOutcome}
+use Rattle.verdict.specs.Verdict.{Verdict, whole, doubtful, lost, clashing, fits, judge}
 use Rattle.volume.specs.Answers.{Answer, done, reply, isWhole, isLost, isClashing, unjudged, judgeAnswer, answerNumber, output}
 use Rattle.volume.specs.Lent.{Within, stage, firstOutcome, secondOutcome, thirdOutcome, mendOutcome}
 use Rattle.volume.specs.Volume.{store, writeAll, Args, Call, blank, first, second, third, mend, read, shape, isShape, lengthRules, lengths, early, mends, writes, mendAnswer, result, unless, sector, refusal, after, mirror, outcome, readOutcome}
@@ -25,22 +26,9 @@ use Rattle.volume.proofs.Refusals.{passed, long-3, shape-facts, refusal
 
 -- ---- ranges
 
-part-end : (w n i : ℕ) → i < n → i * w + w ≤ n * w
-part-end w n i h = subst (λ (m : ℕ). m ≤ n * w) (suc-mul i w) (mul-le-mul-right w h)
-
 count-le : (s n : ℕ) (v : Triple) → isShape s n v ≡ true → n ≤ 65536
 unfolding isShape shape
 count-le s n v e = leb-true n 65536 (and-left (leb n 65536) _ (and-right (leb 1 n) _ e))
-
-size-facts : (s : ℕ) → isSize s ≡ true → (s % 16 ≡ 0) × (s ≤ 4096)
-unfolding isSize
-size-facts s e =
-    let u = and-right (leb 16 s) (leb s 4096 && eqb (s % 16) 0) e in
-    (eqb-true (s % 16) 0 (and-right (leb s 4096) (eqb (s % 16) 0) u), leb-true s 4096 (and-left (leb s 4096) (eqb (s % 16) 0) u))
-
-key-size : (k : Key) → isKey k ≡ true → length (k .bytes) ≡ 32
-unfolding isKey
-key-size k e = eqb-true (length (k .bytes)) 32 e
 
 -- what passing the early checks shows
 pub within : (v : Triple) (a : Args) (c : Call) → firstOf (early v a c) ≡ none
@@ -52,11 +40,10 @@ within v a c e =
     let l = f local in
     let g = f tag in
     let r = f remote in
-    let z = size-facts (a .size) (o .size) in
     let h = o .number in
     let p = part-end (a .size) (a .count) (a .number) h in
     let q = part-end 16 (a .count) (a .number) h in
-    (key-size (a .key) (o .key), record { blocks = z .0; most = z .1; number = omega arith; local-end = omega arith; tag-end = omega arith; remote-end = omega arith })
+    (key-size (a .key) (o .key), record { blocks = size-whole (a .size) (o .size); most = size-le (a .size) (o .size); number = omega arith; local-end = omega arith; tag-end = omega arith; remote-end = omega arith })
 
 -- the same for a call with a plaintext or an output of p bytes, which is then s
 pub with-length : (v : Triple) (a : Args) (c : Call) (p : ℕ) → firstOf (lengthRules p (a .size)) ≡ firstOf (lengths a c) → firstOf (early v a c) ≡ none → p ≡ a .size

@@ -12,44 +12,15 @@ use borrow.Author.Tests.{not-false, leb-true, leb-false, lt-leb, eqb-true}
 use Rattle.block.specs.Bytes.{Plain}
 use Rattle.mode.specs.Sealing.{Triple, Key}
 use Rattle.mode.specs.Scheme.{Place, local, tag, remote, on, wide, isKey, isSize, Scheme}
-use Rattle.sector.specs.Answers.{Rule, rule, firstOf}
+use Rattle.verdict.specs.Answers.{Rule, rule, firstOf}
 use Rattle.volume.specs.Answers.{refused, reply}
 use Rattle.volume.specs.Volume.{Args, Call, blank, first, second, third, mend, read, shape, isShape, checks, lengths, early, late, result, sector, sealing, refusal, answer}
 use Rattle.volume.specs.Machine.{Images, Lent}
 use Rattle.volume.specs.History.{AnyBytes}
 use Rattle.block.proofs.Lists.{and-left, and-right}
-use Rattle.volume.proofs.Options.{none-some}
+use Rattle.verdict.proofs.Rules.{cond-none, only-rule, first-none, first-some, none-left, none-right}
 
 -- ---- lists of rules
-
-pub cond-none : (b : Bool) (k : ℕ) (o : Option ℕ) → cond b (some k) o ≡ none → (b ≡ false) × (o ≡ none)
-cond-none true k o e = absurd (none-some (sym e))
-cond-none false k o e = (refl, e)
-
--- one rule, which does not hold
-pub only-rule : (b : Bool) (k : ℕ) → cond b (some k) none ≡ none → b ≡ false
-only-rule b k e = cond-none b k none e .0
-
-pub append-none : (xs ys : List Rule) → firstOf (xs ++ ys) ≡ none → (firstOf xs ≡ none) × (firstOf ys ≡ none)
-append-none [] ys e = (refl, e)
-append-none (r ∷ xs) ys e =
-    let u = cond-none (r .condition) (r .number) (firstOf (xs ++ ys)) e in
-    let w = append-none xs ys (u .1) in
-    (ap (λ (b : Bool). cond b (some (r .number)) (firstOf xs)) (u .0) ∙ w .0, w .1)
-
-pub none-append : (xs ys : List Rule) → firstOf xs ≡ none → firstOf (xs ++ ys) ≡ firstOf ys
-none-append [] ys e = refl
-none-append (r ∷ xs) ys e =
-    let u = cond-none (r .condition) (r .number) (firstOf xs) e in
-    ap (λ (b : Bool). cond b (some (r .number)) (firstOf (xs ++ ys))) (u .0) ∙ none-append xs ys (u .1)
-
-pub some-append : (xs ys : List Rule) (k : ℕ) → firstOf xs ≡ some k → firstOf (xs ++ ys) ≡ some k
-some-append [] ys k e = absurd (none-some e)
-some-append (r ∷ xs) ys k e = go (r .condition) (some-append xs ys k) e
-  where
-    go : (b : Bool) → (firstOf xs ≡ some k → firstOf (xs ++ ys) ≡ some k) → cond b (some (r .number)) (firstOf xs) ≡ some k → cond b (some (r .number)) (firstOf (xs ++ ys)) ≡ some k
-    go true h z = z
-    go false h z = h z
 
 -- no rule holds
 abbrev NoneHolds : List Rule → Type 0
@@ -82,8 +53,8 @@ pub record Passed (v : Triple) (a : Args) (c : Call) : Type 0 where
 pub passed : (v : Triple) (a : Args) (c : Call) → firstOf (early v a c) ≡ none → Passed v a c
 unfolding early
 passed v a c e =
-    let u = append-none (checks (isShape (a .size) (a .count) v) a c) (lengths a c) e in
-    let (k, (s, (r, (n, z)))) = none-holds (checks (isShape (a .size) (a .count) v) a c) (u .0) in
+    let rules : List Rule = checks (isShape (a .size) (a .count) v) a c in
+    let (k, (s, (r, (n, z)))) = none-holds rules (none-left (lengths a c) rules e) in
     record {
       common = record {
         key = not-false (isKey (a .key)) k;
@@ -91,14 +62,14 @@ passed v a c e =
         shape = not-false (isShape (a .size) (a .count) v) r;
         number = leb-false (a .count) (a .number) n;
       };
-      lengths = u .1;
+      lengths = none-right (lengths a c) rules e;
     }
 
 pub passes-early : (v : Triple) (a : Args) (c : Call) → Passed v a c → firstOf (early v a c) ≡ none
 unfolding early
 passes-early v a c p =
     let o = p .common in
-    none-append (checks (isShape (a .size) (a .count) v) a c) (lengths a c)
+    first-none (lengths a c) (checks (isShape (a .size) (a .count) v) a c)
     (holds-none (checks (isShape (a .size) (a .count) v) a c) (ap not (o .key), (ap not (o .size), (ap not (o .shape), (lt-leb (a .count) (a .number) (o .number), tt)))))
     ∙ p .lengths
 
@@ -171,16 +142,18 @@ forced s n v I s′ n′ e =
 module _ (seals : Key → Scheme) (v : Triple) (a : Args) (c : Call) where
   pub refusal-none : refusal seals v a c ≡ none → (firstOf (early v a c) ≡ none) × (firstOf (late (sealing seals a) (a .number) (sector v a) c) ≡ none)
   unfolding refusal
-  refusal-none e = append-none (early v a c) (late (sealing seals a) (a .number) (sector v a) c) e
+  refusal-none e =
+      let own : List Rule = late (sealing seals a) (a .number) (sector v a) c in
+      (none-left own (early v a c) e, none-right own (early v a c) e)
 
   -- past the early refusals it is the late ones that count
   pub refusal-late : firstOf (early v a c) ≡ none → refusal seals v a c ≡ firstOf (late (sealing seals a) (a .number) (sector v a) c)
   unfolding refusal
-  refusal-late e = none-append (early v a c) (late (sealing seals a) (a .number) (sector v a) c) e
+  refusal-late e = first-none (late (sealing seals a) (a .number) (sector v a) c) (early v a c) e
 
   pub refusal-early : (k : ℕ) → firstOf (early v a c) ≡ some k → refusal seals v a c ≡ some k
   unfolding refusal
-  refusal-early k e = some-append (early v a c) (late (sealing seals a) (a .number) (sector v a) c) k e
+  refusal-early k e = first-some (late (sealing seals a) (a .number) (sector v a) c) (early v a c) e
 
   -- what an accepted call passed
   pub accepted-passed : refusal seals v a c ≡ none → Passed v a c

@@ -10,16 +10,17 @@ use borrow.Author.Tests.{not-false}
 use Rattle.block.specs.Bytes.{Plain}
 use Rattle.mode.specs.Sealing.{Triple}
 use Rattle.mode.specs.Scheme.{Place, local, tag, remote, on, wide, Scheme, Sector, Lawful}
-use Rattle.sector.specs.Verdict.{Fits, FitsTwo, Verdict, whole, doubtful, lost, clashing, Means, fits, judge}
-use Rattle.sector.specs.Answers.{rule, firstOf}
+use Rattle.verdict.specs.Verdict.{Fits, FitsTwo, Verdict, whole, doubtful, lost, clashing, Means, fits, judge}
+use Rattle.verdict.specs.Answers.{rule, firstOf}
 use Rattle.volume.specs.Answers.{isWhole, isLost, isClashing, unjudged}
 use Rattle.volume.specs.Volume.{store, Call, blank, first, second, third, mend, read, late, mends, writes}
 use Rattle.volume.specs.Machine.{Cut, Fate, finished, cut, lands, broken, Held, gone, kept, step, hurt, isPlace, told, Cuts}
 use Rattle.volume.specs.History.{Agree}
 use Rattle.block.proofs.Lists.{clash, false-true, and-left, and-right, and-both, plain-zeros}
 use Rattle.volume.proofs.Options.{none-some}
-use Rattle.sector.proofs.JudgeExact.{same-place, FitsBut, fits-Fits, Fits-fits, two-but, but-two, but-miss, one-for-all, judge-means, means-once}
-use Rattle.volume.proofs.Refusals.{only-rule, Sized}
+use Rattle.verdict.proofs.JudgeExact.{same-place, FitsBut, fits-Fits, Fits-fits, two-but, but-two, but-miss, one-for-all, judge-means, means-once}
+use Rattle.verdict.proofs.Rules.{only-rule}
+use Rattle.volume.proofs.Refusals.{Sized}
 
 -- bytes for each place, stored in some of the places
 abbrev pub storeAll : (Place → List ℕ) → List Place → Triple → Triple

@@ -14,17 +14,16 @@ use Rattle.mode.specs.declared.Direction.the-variants.{SealLocal, SealRemote}
 use Rattle.mode.specs.Scheme.{local, tag, remote, Scheme, dcm}
 use Rattle.mode.specs.Sealing.{blockwise, tagBlock, pad, localBlock, remoteBlock, sides, sealedBy}
 use Rattle.mode.specs.Transforms.{transformed}
-use Rattle.sector.specs.declared.Judged.{Judged}
-use Rattle.sector.specs.declared.Judged.the-variants as J
-use Rattle.sector.specs.declared.Place.{Place}
-use Rattle.sector.specs.declared.Place.the-variants.{Local, Tag, Remote}
-use Rattle.sector.specs.declared.Refusal.{Refusal}
-use Rattle.sector.specs.declared.Refusal.the-variants.{KeyLength, SectorSize, OtherLength, UnknownSide, NoneFits, Lost, Clashing, VolumeShape, SectorNumber, StageOrder, ListLength}
-use Rattle.sector.specs.Answers.{refusalNumber, placeNumber, judgedNumber}
-use Rattle.sector.specs.Calls.{verdictOutcome}
-use Rattle.sector.specs.Judging.{schemeOf}
-use Rattle.sector.specs.Verdict.{Verdict, whole, doubtful, lost, clashing, fits, judge}
-use Rattle.sector.proofs.Sides.{tag-loaded, tag-compared}
+use Rattle.verdict.specs.declared.Judged.{Judged}
+use Rattle.verdict.specs.declared.Judged.the-variants as J
+use Rattle.verdict.specs.declared.Place.{Place}
+use Rattle.verdict.specs.declared.Place.the-variants.{Local, Tag, Remote}
+use Rattle.verdict.specs.declared.Refusal.{Refusal}
+use Rattle.verdict.specs.declared.Refusal.the-variants.{KeyLength, SectorSize, OtherLength, UnknownSide, NoneFits, Lost, Clashing, VolumeShape, SectorNumber, StageOrder, ListLength}
+use Rattle.verdict.specs.Answers.{refusalNumber, placeNumber, judgedNumber}
+use Rattle.verdict.specs.Judging.{verdictOutcome, schemeOf}
+use Rattle.verdict.specs.Verdict.{Verdict, whole, doubtful, lost, clashing, fits, judge}
+use Rattle.verdict.proofs.Sides.{tag-loaded, tag-compared}
 use Rattle.volume.specs.Answers.{isWhole}
 use Rattle.volume.specs.Lent.{stage, placesOf, firstOutcome, secondOutcome, thirdOutcome}
 

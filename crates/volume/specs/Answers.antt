@@ -4,8 +4,8 @@ use mathlib.Core.List.{List, [], _∷_}
 use mathlib.Core.Option.{Option, none, some}
 use Prim.Native.Nat.{ℕ}
 use Rattle.mode.specs.Scheme.{Place}
-use Rattle.sector.specs.Answers.{Rule, rule, doubtNumber}
-use Rattle.sector.specs.Verdict.{Verdict, whole, doubtful, lost, clashing}
+use Rattle.verdict.specs.Answers.{Rule, rule, doubtNumber}
+use Rattle.verdict.specs.Verdict.{Verdict, whole, doubtful, lost, clashing}
 
 pub data Answer : Type 0 where
   refused : ℕ → Answer

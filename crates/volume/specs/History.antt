@@ -7,8 +7,8 @@ use Prim.Native.Nat.{ℕ, _<_}
 use Rattle.block.specs.Bytes.{Bytes, Plain}
 use Rattle.mode.specs.Sealing.{Triple, Key}
 use Rattle.mode.specs.Scheme.{Place, local, on, Scheme}
-use Rattle.sector.specs.Verdict.{Fits, FitsTwo, Means, lost}
-use Rattle.sector.specs.Answers.{firstOf}
+use Rattle.verdict.specs.Verdict.{Fits, FitsTwo, Means, lost}
+use Rattle.verdict.specs.Answers.{firstOf}
 use Rattle.volume.specs.Answers.{Answer, refused, gives}
 use Rattle.volume.specs.Volume.{Args, Call, first, mend, read, sectorOf, early, refusal, answer, mirror}
 use Rattle.volume.specs.Machine.{Fate, finished, Event, call, Held, gone, kept, State, start, Volume, Takes, Images, Lent, leavesCall, Allowed, AllAllowed, run, hold}

@@ -6,11 +6,11 @@ use Prim.Native.Nat.{ℕ, _+_, _*_, _<_, _≤_, _%_}
 use Rattle.block.specs.Bytes.{patch}
 use Rattle.mode.specs.Scheme.{Place, local, tag, remote, on, Scheme}
 use Rattle.mode.specs.Sealing.{Key, Triple}
-use Rattle.sector.specs.declared.Place as D
-use Rattle.sector.specs.declared.Place.the-variants.{Local, Tag, Remote}
-use Rattle.sector.specs.Answers.{doubtNumber}
-use Rattle.sector.specs.Calls.{triple}
-use Rattle.sector.specs.Verdict.{Verdict, whole, doubtful, lost, clashing, fits, judge}
+use Rattle.verdict.specs.declared.Place as D
+use Rattle.verdict.specs.declared.Place.the-variants.{Local, Tag, Remote}
+use Rattle.verdict.specs.Answers.{doubtNumber}
+use Rattle.verdict.specs.Judging.{triple}
+use Rattle.verdict.specs.Verdict.{Verdict, whole, doubtful, lost, clashing, fits, judge}
 use Rattle.volume.specs.Answers.{isWhole}
 use Rattle.volume.specs.Volume.{sectorOf, writeAll, mends, Args}
 

@@ -9,9 +9,8 @@ use lib.ListN.{length, replicate}
 use Rattle.block.specs.Bytes.{part, patch}
 use Rattle.mode.specs.Sealing.{Triple, Key, tweak}
 use Rattle.mode.specs.Scheme.{Place, local, tag, remote, on, wide, isSize, Scheme, scheme}
-use Rattle.sector.specs.Verdict.{Verdict, whole, doubtful, lost, clashing, fits, judge}
-use Rattle.sector.specs.Calls.{keyRules}
-use Rattle.sector.specs.Answers.{Rule, rule, firstOf}
+use Rattle.verdict.specs.Verdict.{Verdict, whole, doubtful, lost, clashing, fits, judge}
+use Rattle.verdict.specs.Answers.{keyRules, Rule, rule, firstOf}
 use Rattle.volume.specs.Answers.{Answer, refused, done, found, reply, isWhole, unjudged, judgeAnswer, answerNumber, output}
 
 -- ---- three images

@@ -4,21 +4,20 @@ use aes::Table;
 use block::Block;
 use mode::Context;
 use mode::Direction;
-use sector::Done;
-use sector::Judged;
-use sector::Place;
-use sector::Refusal;
+use verdict::Done;
+use verdict::Judged;
+use verdict::Place;
+use verdict::Refusal;
 ghost use mathlib.Core.Path.{_≡_};
 ghost use mathlib.Core.List.{_++_};
 ghost use Prim.Native.Nat.{_+_, _*_, _<_, _≤_, _%_};
 ghost use lib.ListN.{length};
 ghost use Rattle.block.specs.Bytes.{toBytes, blocksOf, part, patch, same};
 ghost use Rattle.block.specs.Value.{value};
-ghost use Rattle.sector.specs.Answers.{firstOf, doneOption, doneNumber, judgedNumber};
-ghost use Rattle.sector.specs.Calls.{keyRules, verdictOutcome};
-ghost use Rattle.sector.specs.Calls as C;
-ghost use Rattle.sector.specs.Verdict.{judge};
-ghost use Rattle.sector.specs.Judging.{schemeOf, judgedBy};
+ghost use Rattle.verdict.specs.Answers.{firstOf, doneOption, doneNumber, judgedNumber, keyRules};
+ghost use Rattle.verdict.specs.Judging.{verdictOutcome, schemeOf, judgedBy};
+ghost use Rattle.verdict.specs.Judging as C;
+ghost use Rattle.verdict.specs.Verdict.{judge};
 ghost use Rattle.aes.specs.Aes.{cipherNumber};
 ghost use Rattle.aes.specs.Columns.{roundTable};
 ghost use Rattle.mode.specs.Scheme.{on};
@@ -53,7 +52,7 @@ fn fits_shape(s: usize, n: usize, l: usize, g: usize, r: usize) -> bool
 fn check_shape(s: usize, n: usize, i: usize, l: usize, g: usize, r: usize) -> Done
     ensures { λ d. ⌜ firstOf (W.shapeRules s n i (W.shape s n l g r)) ≡ doneOption d ⌝ }
 {
-    if sector::is_size(s) {
+    if verdict::is_size(s) {
         if fits_shape(s, n, l, g, r) {
             if i < n {
                 return Done::Done;
@@ -69,7 +68,7 @@ fn check_shape(s: usize, n: usize, i: usize, l: usize, g: usize, r: usize) -> Do
 fn check(key: &[u8], s: usize, n: usize, i: usize, l: usize, g: usize, r: usize) -> Done
     ensures { λ d. ⌜ firstOf (keyRules (C.key (now (key .entry))) ++ W.shapeRules s n i (W.shape s n l g r)) ≡ doneOption d ⌝ }
 {
-    let keyed = sector::check_key(key);
+    let keyed = verdict::check_key(key);
     match keyed {
         Done::Done => check_shape(s, n, i, l, g, r),
         Done::Refused(f) => Done::Refused(f),
@@ -122,7 +121,7 @@ fn judge_part(
     let e = a + s;
     let b = i * 16;
     let f = b + 16;
-    sector::judge_in(
+    verdict::judge_in(
         t,
         w,
         powers,
@@ -382,7 +381,7 @@ fn read_checked(
     let k = mode::prepare(&t, key);
     let w = k.words;
     let powers = k.powers;
-    let m = sector::context(k.alpha, k.beta, i as u64);
+    let m = verdict::context(k.alpha, k.beta, i as u64);
     let mut sum = [0u8; 4096];
     let mut scratch = [0u8; 4096];
     judge_part(
@@ -416,7 +415,7 @@ fn first_checked(
     let k = mode::prepare(&t, key);
     let w = k.words;
     let powers = k.powers;
-    let m = sector::context(k.alpha, k.beta, i as u64);
+    let m = verdict::context(k.alpha, k.beta, i as u64);
     let s = p.len();
     let mut plain = [0u8; 4096];
     let mut sum = [0u8; 4096];
@@ -452,7 +451,7 @@ fn second_checked(
     let k = mode::prepare(&t, key);
     let w = k.words;
     let powers = k.powers;
-    let m = sector::context(k.alpha, k.beta, i as u64);
+    let m = verdict::context(k.alpha, k.beta, i as u64);
     let s = p.len();
     let mut scratch = [0u8; 4096];
     second_in(
@@ -484,7 +483,7 @@ fn third_checked(
     let k = mode::prepare(&t, key);
     let w = k.words;
     let powers = k.powers;
-    let m = sector::context(k.alpha, k.beta, i as u64);
+    let m = verdict::context(k.alpha, k.beta, i as u64);
     let s = p.len();
     let mut scratch = [0u8; 4096];
     third_in(
@@ -516,7 +515,7 @@ fn blank_checked(
     let k = mode::prepare(&t, key);
     let w = k.words;
     let powers = k.powers;
-    let m = sector::context(k.alpha, k.beta, i as u64);
+    let m = verdict::context(k.alpha, k.beta, i as u64);
     write_all(&t, &w, &powers, m, p, i, local, tags, remote);
 }
 
@@ -535,7 +534,7 @@ fn mend_checked(
     let k = mode::prepare(&t, key);
     let w = k.words;
     let powers = k.powers;
-    let m = sector::context(k.alpha, k.beta, i as u64);
+    let m = verdict::context(k.alpha, k.beta, i as u64);
     let mut plain = [0u8; 4096];
     let mut sum = [0u8; 4096];
     let mut scratch = [0u8; 4096];

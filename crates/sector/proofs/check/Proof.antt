@@ -1,7 +1,8 @@
 use mathlib.Core.Path.{ap, _∙_}
-use Rattle.sector.specs.Answers.{doneOption}
-use Rattle.sector.proofs.Checks.{first-none, first-some}
-use Rattle.sector.specs.Calls.{key, keyRules, sizeRules}
+use Rattle.verdict.specs.Answers.{doneOption, keyRules}
+use Rattle.verdict.proofs.Rules.{first-none, first-some}
+use Rattle.verdict.specs.Judging.{key}
+use Rattle.sector.specs.Calls.{sizeRules}
 use borrow.Author.Needs.{needs}
 use Rattle.sector.proofs.check.Statement.{statement}
 use Rattle.sector.proofs.check.Tie as tie

@@ -1,9 +1,10 @@
 use mathlib.Core.Path.{ap, _∙_}
 use mathlib.Core.List.{_++_}
 use borrow.Author.Tests.{eq-eqb, ne-eqb}
-use Rattle.sector.specs.Answers.{doneOption}
-use Rattle.sector.specs.Calls.{key, keyRules, sizeRules, sideRules}
-use Rattle.sector.proofs.Checks.{first-none, first-some}
+use Rattle.verdict.specs.Answers.{doneOption, keyRules}
+use Rattle.verdict.specs.Judging.{key}
+use Rattle.sector.specs.Calls.{sizeRules, sideRules}
+use Rattle.verdict.proofs.Rules.{first-none, first-some}
 use borrow.Author.Needs.{needs}
 use Rattle.sector.proofs.check_open.Statement.{statement}
 use Rattle.sector.proofs.check_open.Tie as tie

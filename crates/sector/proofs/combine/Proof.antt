@@ -2,7 +2,7 @@ use mathlib.Core.Path.{sym, ap, _∙_}
 use mathlib.Core.List.{List}
 use Prim.Native.Nat.{ℕ}
 use lib.ListN.{length}
-use Rattle.sector.specs.Answers.{doneOption}
+use Rattle.verdict.specs.Answers.{doneOption}
 use Rattle.sector.proofs.Checks.{sizes}
 use Rattle.sector.proofs.Public.{combine-passes, combine-refuses}
 use borrow.Author.Needs.{needs}

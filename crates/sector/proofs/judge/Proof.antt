@@ -1,7 +1,7 @@
 use mathlib.Core.Path.{ap, _∙_}
 use lib.ListN.{length}
-use Rattle.sector.specs.Answers.{doneOption}
-use Rattle.sector.specs.Calls.{triple}
+use Rattle.verdict.specs.Answers.{doneOption}
+use Rattle.verdict.specs.Judging.{triple}
 use Rattle.sector.proofs.Checks.{accepted}
 use Rattle.sector.proofs.Public.{judge-passes, judge-refuses}
 use borrow.Author.Needs.{needs}

@@ -1,7 +1,8 @@
 use Rattle.block.specs.Value.{value}
 use Rattle.block.proofs.Lists.{bytes-all}
-use Rattle.sector.specs.Calls.{sideOf}
-use Rattle.sector.proofs.Opened.{Side-known, found, missing, opened-by, opened-by-none}
+use Rattle.verdict.specs.Verdict.{sideOf}
+use Rattle.verdict.proofs.Opened.{Side-known, found, missing}
+use Rattle.sector.proofs.Public.{opened-by, opened-by-none}
 use borrow.Author.Needs.{needs}
 use Rattle.sector.proofs.open_in.Statement.{statement}
 use Rattle.sector.proofs.open_in.Tie as tie

@@ -1,10 +1,12 @@
 use mathlib.Core.Path.{ap, _∙_}
 use mathlib.Core.List.{_++_}
 use lib.ListN.{length}
-use Rattle.sector.specs.Answers.{doneOption}
-use Rattle.sector.specs.Calls.{key, keyRules, sizeRules, sideRules}
-use Rattle.sector.proofs.Checks.{none-left, accepted}
-use Rattle.sector.proofs.Opened.{rebuild-passes, rebuild-refuses}
+use Rattle.verdict.specs.Answers.{doneOption, keyRules}
+use Rattle.verdict.specs.Judging.{key}
+use Rattle.sector.specs.Calls.{sizeRules, sideRules}
+use Rattle.verdict.proofs.Rules.{none-left}
+use Rattle.sector.proofs.Checks.{accepted}
+use Rattle.sector.proofs.Public.{rebuild-passes, rebuild-refuses}
 use borrow.Author.Needs.{needs}
 use Rattle.sector.proofs.rebuild.Statement.{statement}
 use Rattle.sector.proofs.rebuild.Tie as tie

@@ -1,7 +1,8 @@
 use mathlib.Core.Path.{sym, _∙_}
 use native.Mathlib.Omega.{arith}
 use lib.ListN.{length-take}
-use Rattle.sector.proofs.Prepared.{ready-of, rebuilt-is}
+use Rattle.verdict.proofs.Prepared.{ready-of}
+use Rattle.sector.proofs.Prepared.{rebuilt-is}
 use borrow.Author.Needs.{needs}
 use Rattle.sector.proofs.rebuild_checked.Statement.{statement}
 use Rattle.sector.proofs.rebuild_checked.Tie as tie

@@ -1,12 +1,12 @@
 use mathlib.Core.List.{List}
 use Prim.Native.Nat.{ℕ}
 use Rattle.mode.specs.Scheme.{on}
-use Rattle.sector.specs.Judging.{schemeOf}
-use Rattle.sector.specs.Verdict.{placeOf, otherSide}
+use Rattle.verdict.specs.Judging.{schemeOf}
+use Rattle.verdict.specs.Verdict.{placeOf, otherSide, sideOf}
 use Rattle.block.specs.Value.{value}
 use Rattle.block.proofs.Lists.{bytes-all}
-use Rattle.sector.specs.Calls.{sideOf}
-use Rattle.sector.proofs.Opened.{Side-known, found, missing, rebuilt, opened-by, opened-by-none}
+use Rattle.verdict.proofs.Opened.{Side-known, found, missing, rebuilt}
+use Rattle.sector.proofs.Public.{opened-by, opened-by-none}
 use borrow.Author.Needs.{needs}
 use Rattle.sector.proofs.rebuild_in.Statement.{statement}
 use Rattle.sector.proofs.rebuild_in.Tie as tie

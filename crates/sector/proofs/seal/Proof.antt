@@ -1,8 +1,8 @@
 use mathlib.Core.Path.{sym, ap, _∙_}
 use lib.ListN.{length}
 use Rattle.mode.specs.Sealing.{Triple}
-use Rattle.sector.specs.Answers.{doneOption}
-use Rattle.sector.specs.Calls.{triple}
+use Rattle.verdict.specs.Answers.{doneOption}
+use Rattle.verdict.specs.Judging.{triple}
 use Rattle.sector.proofs.Checks.{accepted}
 use Rattle.sector.proofs.Public.{seal-passes, seal-refuses}
 use borrow.Author.Needs.{needs}

@@ -1,5 +1,6 @@
 use mathlib.Core.Path.{_∙_}
-use Rattle.sector.proofs.Prepared.{ready-of, scheme-sealed}
+use Rattle.verdict.proofs.Prepared.{ready-of}
+use Rattle.sector.proofs.Prepared.{scheme-sealed}
 use borrow.Author.Needs.{needs}
 use Rattle.sector.proofs.seal_checked.Statement.{statement}
 use Rattle.sector.proofs.seal_checked.Tie as tie

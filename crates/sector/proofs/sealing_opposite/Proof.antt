@@ -1,7 +1,7 @@
 use mathlib.Core.Path.{sym, ap}
-use Rattle.sector.specs.Judging.{sealingOf}
-use Rattle.sector.specs.Verdict.{Side, otherSide}
-use Rattle.sector.proofs.Sides.{side-other}
+use Rattle.verdict.specs.Judging.{sealingOf}
+use Rattle.verdict.specs.Verdict.{Side, otherSide}
+use Rattle.verdict.proofs.Sides.{side-other}
 use borrow.Author.Needs.{needs}
 use Rattle.sector.proofs.sealing_opposite.Statement.{statement}
 use Rattle.sector.proofs.sealing_opposite.Tie as tie

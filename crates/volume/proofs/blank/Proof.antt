@@ -4,8 +4,8 @@ use Prim.Native.Nat.{ℕ}
 use native.Mathlib.Omega.{arith}
 use lib.ListN.{length, take, replicate, length-take, length-replicate}
 use Rattle.mode.specs.Scheme.{local, tag, remote, on}
-use Rattle.sector.specs.Answers.{doneOption}
-use Rattle.sector.specs.Calls.{key, triple}
+use Rattle.verdict.specs.Answers.{doneOption}
+use Rattle.verdict.specs.Judging.{key, triple}
 use Rattle.volume.specs.Lent.{args}
 use Rattle.volume.specs.Volume.{writeAll, blank, isShape, early, mirror}
 use Rattle.volume.proofs.Public.{within, within-length, prefix-size, zeros-are, early-refused, blank-passes}

@@ -1,7 +1,7 @@
 use mathlib.Core.Path.{_∙_}
 use lib.ListN.{length}
-use Rattle.sector.specs.Calls.{triple}
-use Rattle.sector.proofs.Prepared.{ready-of}
+use Rattle.verdict.specs.Judging.{triple}
+use Rattle.verdict.proofs.Prepared.{ready-of}
 use Rattle.volume.proofs.Keyed.{blank-keyed}
 use borrow.Author.Needs.{needs}
 use Rattle.volume.proofs.blank_checked.Statement.{statement}

@@ -1,7 +1,7 @@
 use mathlib.Core.Path.{sym, _∙_}
 use native.Mathlib.Omega.{arith}
 use borrow.Author.Tests.{le-leb, lt-leb}
-use Rattle.volume.proofs.Ranges.{size-le}
+use Rattle.mode.proofs.Sizes.{size-le}
 use borrow.Author.Needs.{needs}
 use Rattle.volume.proofs.check_shape.Statement.{statement}
 use Rattle.volume.proofs.check_shape.Tie as tie

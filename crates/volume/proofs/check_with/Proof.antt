@@ -1,7 +1,7 @@
 use mathlib.Core.Path.{ap, _∙_}
-use Rattle.sector.specs.Answers.{doneOption}
-use Rattle.sector.specs.Calls.{key, keyRules}
-use Rattle.sector.proofs.Checks.{first-none, first-some}
+use Rattle.verdict.specs.Answers.{doneOption, keyRules}
+use Rattle.verdict.specs.Judging.{key}
+use Rattle.verdict.proofs.Rules.{first-none, first-some}
 use Rattle.volume.specs.Volume.{shape, shapeRules, lengthRules}
 use mathlib.Core.List.{_++_}
 use borrow.Author.Tests.{eq-eqb, ne-eqb}

@@ -1,7 +1,7 @@
 use mathlib.Core.Path.{sym, _∙_}
 use native.Mathlib.Omega.{arith}
 use lib.ListN.{length, length-take}
-use Rattle.sector.proofs.Prepared.{ready-of}
+use Rattle.verdict.proofs.Prepared.{ready-of}
 use Rattle.volume.proofs.Keyed.{first-keyed}
 use borrow.Author.Needs.{needs}
 use Rattle.volume.proofs.first_checked.Statement.{statement}

@@ -1,7 +1,7 @@
 use Rattle.block.specs.Value.{value}
 use lib.ListN.{length}
-use Rattle.sector.specs.Judging.{schemeOf}
-use Rattle.sector.specs.Verdict.{judge}
+use Rattle.verdict.specs.Judging.{schemeOf}
+use Rattle.verdict.specs.Verdict.{judge}
 use Rattle.volume.specs.Lent.{placesOf}
 use Rattle.volume.proofs.Stages.{judged-whole, judged-doubtful, judged-refused, first-yes, first-no, local-written}
 use borrow.Author.Needs.{needs}

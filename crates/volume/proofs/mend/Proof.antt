@@ -1,6 +1,6 @@
 use mathlib.Core.Path.{ap, _∙_}
-use Rattle.sector.specs.Answers.{doneOption}
-use Rattle.sector.specs.Calls.{key, triple}
+use Rattle.verdict.specs.Answers.{doneOption}
+use Rattle.verdict.specs.Judging.{key, triple}
 use Rattle.volume.specs.Lent.{args}
 use Rattle.volume.specs.Volume.{mend, isShape, early}
 use Rattle.volume.proofs.Public.{within, early-refused, mend-passes}

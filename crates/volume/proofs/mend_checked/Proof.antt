@@ -1,9 +1,9 @@
 use mathlib.Core.Path.{sym, _∙_}
 use native.Mathlib.Omega.{arith}
 use lib.ListN.{length-take}
-use Rattle.sector.proofs.Prepared.{ready-of}
+use Rattle.verdict.proofs.Prepared.{ready-of}
 use Rattle.volume.proofs.Keyed.{mend-keyed}
-use Rattle.sector.specs.Calls.{triple}
+use Rattle.verdict.specs.Judging.{triple}
 use borrow.Author.Needs.{needs}
 use Rattle.volume.proofs.mend_checked.Statement.{statement}
 use Rattle.volume.proofs.mend_checked.Tie as tie

@@ -2,9 +2,8 @@ use mathlib.Core.Path.{sym, subst, _∙_}
 use Prim.Native.Nat.{ℕ}
 use lib.ListN.{length}
 use Rattle.block.specs.Value.{value}
-use Rattle.sector.specs.Calls.{triple}
-use Rattle.sector.specs.Judging.{schemeOf}
-use Rattle.sector.specs.Verdict.{judge}
+use Rattle.verdict.specs.Judging.{triple, schemeOf}
+use Rattle.verdict.specs.Verdict.{judge}
 use Rattle.volume.specs.Lent.{Within, placesOf}
 use Rattle.volume.proofs.Mends.{mend-whole, mend-doubtful, mend-refused}
 use borrow.Author.Needs.{needs}

@@ -1,7 +1,7 @@
 use mathlib.Core.Path.{refl, ap, _∙_}
 use lib.ListN.{length}
-use Rattle.sector.specs.Answers.{doneOption}
-use Rattle.sector.specs.Calls.{key, triple}
+use Rattle.verdict.specs.Answers.{doneOption}
+use Rattle.verdict.specs.Judging.{key, triple}
 use Rattle.volume.specs.Lent.{args}
 use Rattle.volume.specs.Volume.{read, isShape, early}
 use Rattle.volume.proofs.Public.{within, with-length, read-passes, read-refused}

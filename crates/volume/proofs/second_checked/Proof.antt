@@ -1,7 +1,7 @@
 use mathlib.Core.Path.{sym, _∙_}
 use native.Mathlib.Omega.{arith}
 use lib.ListN.{length, length-take}
-use Rattle.sector.proofs.Prepared.{ready-of}
+use Rattle.verdict.proofs.Prepared.{ready-of}
 use Rattle.volume.proofs.Keyed.{second-keyed}
 use borrow.Author.Needs.{needs}
 use Rattle.volume.proofs.second_checked.Statement.{statement}

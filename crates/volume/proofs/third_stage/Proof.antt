@@ -1,8 +1,8 @@
 use mathlib.Core.Path.{refl, sym, ap, _∙_}
 use Prim.Native.Nat.{ℕ}
 use lib.ListN.{length}
-use Rattle.sector.specs.Answers.{doneOption}
-use Rattle.sector.specs.Calls.{key, triple}
+use Rattle.verdict.specs.Answers.{doneOption}
+use Rattle.verdict.specs.Judging.{key, triple}
 use Rattle.volume.specs.Lent.{args, thirdOutcome}
 use Rattle.volume.specs.Volume.{third, isShape, early, mirror}
 use Rattle.volume.proofs.Public.{with-length, within-length, early-refused, third-passes}

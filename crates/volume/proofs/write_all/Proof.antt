@@ -1,6 +1,6 @@
 use Rattle.block.specs.Value.{value}
 use lib.ListN.{length}
-use Rattle.sector.specs.Calls.{triple}
+use Rattle.verdict.specs.Judging.{triple}
 use Rattle.volume.proofs.Stages.{local-written, tag-written, remote-written}
 use borrow.Author.Needs.{needs}
 use Rattle.volume.proofs.write_all.Statement.{statement}

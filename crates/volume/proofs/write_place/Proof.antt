@@ -2,9 +2,8 @@ use mathlib.Core.Path.{sym, ap, _∙_}
 use Rattle.block.specs.Value.{value}
 use lib.ListN.{length}
 use Rattle.mode.specs.Scheme.{on}
-use Rattle.sector.specs.declared.Place as D
-use Rattle.sector.specs.Calls.{triple}
-use Rattle.sector.specs.Judging.{schemeOf}
+use Rattle.verdict.specs.declared.Place as D
+use Rattle.verdict.specs.Judging.{triple, schemeOf}
 use Rattle.volume.specs.Lent.{placeNamed}
 use Rattle.volume.specs.Volume.{write}
 use Rattle.volume.proofs.Stages.{local-written, tag-written, remote-written}

@@ -1,18 +1,19 @@
 -- Answers and refusals: their numbers in document 01, and the enums of the code. Assumes nothing: these are definitions.
-use mathlib.Core.Bool.{Bool, cond}
+use mathlib.Core.Bool.{Bool, not, cond}
 use mathlib.Core.List.{List, [], _∷_}
 use mathlib.Core.Option.{Option, none, some}
 use Prim.Native.Nat.{ℕ}
-use Rattle.mode.specs.Scheme.{local, tag, remote}
+use Rattle.mode.specs.Sealing.{Key}
+use Rattle.mode.specs.Scheme.{local, tag, remote, isKey}
 use Rattle.mode.specs.Scheme as M
-use Rattle.sector.specs.declared.Place.{Place}
-use Rattle.sector.specs.declared.Place.the-variants.{Local, Tag, Remote}
-use Rattle.sector.specs.declared.Refusal.{Refusal}
-use Rattle.sector.specs.declared.Refusal.the-variants.{KeyLength, SectorSize, OtherLength, UnknownSide, NoneFits, Lost, Clashing, VolumeShape, SectorNumber, StageOrder, ListLength}
-use Rattle.sector.specs.declared.Judged.{Judged}
-use Rattle.sector.specs.declared.Judged.the-variants as J
-use Rattle.sector.specs.declared.Done.{Done}
-use Rattle.sector.specs.declared.Done.the-variants as D
+use Rattle.verdict.specs.declared.Place.{Place}
+use Rattle.verdict.specs.declared.Place.the-variants.{Local, Tag, Remote}
+use Rattle.verdict.specs.declared.Refusal.{Refusal}
+use Rattle.verdict.specs.declared.Refusal.the-variants.{KeyLength, SectorSize, OtherLength, UnknownSide, NoneFits, Lost, Clashing, VolumeShape, SectorNumber, StageOrder, ListLength}
+use Rattle.verdict.specs.declared.Judged.{Judged}
+use Rattle.verdict.specs.declared.Judged.the-variants as J
+use Rattle.verdict.specs.declared.Done.{Done}
+use Rattle.verdict.specs.declared.Done.the-variants as D
 
 -- ---- doubt at place 1 (local), 2 (tag) and 3 (remote)
 
@@ -35,6 +36,10 @@ rule k b = record { number = k; condition = b }
 abbrev pub firstOf : List Rule → Option ℕ
 firstOf [] = none
 firstOf (r ∷ rs) = cond (r .condition) (some (r .number)) (firstOf rs)
+
+-- refusal 1
+abbrev pub keyRules : Key → List Rule
+keyRules k = rule 1 (not (isKey k)) ∷ []
 
 -- a call's number and lent bytes: a refusal leaves the bytes as they were
 abbrev pub settle : {A : Type 0} → Option ℕ → ℕ × A → A → ℕ × A

@@ -19,9 +19,8 @@ use Rattle.mode.specs.Sealing.{blockwise, tagBlock, pad, openLocalBlock, openRe
 use Rattle.mode.specs.Scheme.{dcm}
 use Rattle.mode.specs.Transforms.{transformed}
 use Rattle.mode.proofs.Laws.{tag-lt}
-use Rattle.sector.specs.Calls.{sideOf}
-use Rattle.sector.specs.Judging.{schemeOf, openingOf}
-use Rattle.sector.specs.Verdict.{Side, localSide, remoteSide, openSide}
+use Rattle.verdict.specs.Judging.{schemeOf, openingOf}
+use Rattle.verdict.specs.Verdict.{Side, localSide, remoteSide, sideOf, openSide}
 
 -- a tag as a block
 pub tag-loaded : (g : List ℕ) → length g ≡ 16 → fromBytes (take 16 (drop 0 g)) ≡ fromBytes g

@@ -1,4 +1,4 @@
--- What the inner functions are lent, and what judging then answers. Assumes nothing: these are definitions.
+-- What judging is lent, and what it then answers. Assumes nothing: these are definitions.
 use mathlib.Core.Path.{_≡_}
 use mathlib.Core.Bool.{true, false}
 use mathlib.Core.List.{List}
@@ -13,8 +13,16 @@ use Rattle.mode.specs.declared.Direction.{Direction}
 use Rattle.mode.specs.declared.Direction.the-variants.{SealLocal, SealRemote, OpenLocal, OpenRemote}
 use Rattle.mode.specs.Prepared.{Ready}
 use Rattle.mode.specs.Scheme.{Scheme, dcm, tag, remote}
-use Rattle.sector.specs.Calls.{triple, verdictOutcome}
-use Rattle.sector.specs.Verdict.{fits, judge, Side, localSide, remoteSide}
+use Rattle.mode.specs.Sealing.{Key, Triple}
+use Rattle.verdict.specs.Answers.{doubtNumber}
+use Rattle.verdict.specs.Verdict.{Verdict, whole, doubtful, lost, clashing, fits, judge, Side, localSide, remoteSide}
+
+-- a key and three places, from their bytes
+abbrev pub key : List ℕ → Key
+key b = record { bytes = b }
+
+abbrev pub triple : List ℕ → List ℕ → List ℕ → Triple
+triple l g r = record { local = l; tag = g; remote = r }
 
 -- the mode under the round keys w and the powers p of the hash key
 abbrev pub schemeOf : List ℕ → List ℕ → Scheme
@@ -39,7 +47,14 @@ pub record Lent (t w p : List ℕ) (m : Context) (l g r out : List ℕ) : Type 0
   pub remote-size : length r ≡ length l
   pub out-size : length out ≡ length l
 
--- the number and the output of judging
+-- the number and the output of a verdict, with the output before
+abbrev pub verdictOutcome : Verdict → List ℕ → ℕ × List ℕ
+verdictOutcome (whole P) out = (0, P)
+verdictOutcome (doubtful p P) out = (doubtNumber p, P)
+verdictOutcome lost out = (6, out)
+verdictOutcome clashing out = (7, out)
+
+-- and of judging
 abbrev pub judgedBy : List ℕ → List ℕ → Context → List ℕ → List ℕ → List ℕ → List ℕ → ℕ × List ℕ
 judgedBy w p m l g r out = verdictOutcome (judge (schemeOf w p) (value (m .tweak)) (triple l g r)) out
 
@@ -52,11 +67,3 @@ pub record SumFits (w p : List ℕ) (m : Context) (l g r sum : List ℕ) : Type 
 -- local ⊕ remote does not fit the sides
 unfoldable pub SumFails : List ℕ → List ℕ → Context → List ℕ → List ℕ → List ℕ → Type 0
 SumFails w p m l g r = fits (schemeOf w p) (value (m .tweak)) (triple l g r) remote (xorBytes l r) ≡ false
-
--- lengths that pass the checks: a sector of s bytes, two more lengths, and a tag's
-pub record Sizes (s x y g : ℕ) : Type 0 where
-  pub blocks : s % 16 ≡ 0
-  pub most : s ≤ 4096
-  pub first : x ≡ s
-  pub second : y ≡ s
-  pub tag-size : g ≡ 16

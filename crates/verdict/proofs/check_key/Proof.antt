@@ -1,7 +1,7 @@
 use borrow.Author.Tests.{eq-eqb, ne-eqb}
 use Rattle.mode.specs.Scheme.{isKey}
-use Rattle.sector.proofs.check_key.Statement.{statement}
-use Rattle.sector.proofs.check_key.Tie as tie
+use Rattle.verdict.proofs.check_key.Statement.{statement}
+use Rattle.verdict.proofs.check_key.Tie as tie
 
 returns : tie.Need-returns
 unfolding isKey

@@ -1,8 +1,8 @@
 use native.Mathlib.Omega.{arith}
 use borrow.Author.Tests.{le-leb, lt-leb}
 use Rattle.mode.specs.Scheme.{isSize}
-use Rattle.sector.proofs.is_size.Statement.{statement}
-use Rattle.sector.proofs.is_size.Tie as tie
+use Rattle.verdict.proofs.is_size.Statement.{statement}
+use Rattle.verdict.proofs.is_size.Tie as tie
 
 returns : tie.Need-returns
 unfolding isSize

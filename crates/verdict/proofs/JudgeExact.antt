@@ -8,7 +8,7 @@ use Rattle.block.specs.Bytes.{Plain, xorBytes, same}
 use Rattle.block.proofs.Lists.{false-true, same-eq, eq-same, ne-same, plain-xor}
 use Rattle.mode.specs.Sealing.{Triple}
 use Rattle.mode.specs.Scheme.{Place, local, tag, remote, on, Sector, Scheme, Lawful}
-use Rattle.sector.specs.Verdict.{Fits, FitsTwo, Verdict, whole, doubtful, lost, clashing, Means, two, fits, candidate, fitsTwo, grade, keep, all, weigh, judge, JudgeExact}
+use Rattle.verdict.specs.Verdict.{Fits, FitsTwo, Verdict, whole, doubtful, lost, clashing, Means, two, fits, candidate, fitsTwo, grade, keep, all, weigh, judge, JudgeExact}
 
 -- ---- places
 

@@ -8,7 +8,7 @@ use native.Mathlib.Omega.{arith}
 use Rattle.block.specs.Bytes.{Plain, same}
 use Rattle.block.proofs.Lists.{and-left, and-right, and-both, same-eq, eq-same}
 use Rattle.mode.specs.Scheme.{on, Scheme, Lawful}
-use Rattle.sector.specs.Verdict.{Side, localSide, remoteSide, placeOf, openSide, opened, Opens, OpenExact}
+use Rattle.verdict.specs.Verdict.{Side, localSide, remoteSide, placeOf, openSide, opened, Opens, OpenExact}
 
 module _ (s : ℕ) (S : Scheme) (L : Lawful s S) (T : ℕ) where
   -- sealing and then opening gives the plaintext back

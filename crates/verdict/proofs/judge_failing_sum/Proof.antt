@@ -1,12 +1,12 @@
 use Rattle.block.proofs.Lists.{bytes-all}
-use Rattle.sector.proofs.Judging.{Known, known-of, clash-both, left-only, right-only, none-fits}
+use Rattle.verdict.proofs.Judging.{Known, known-of, clash-both, left-only, right-only, none-fits}
 use borrow.Author.Needs.{needs}
-use Rattle.sector.proofs.judge_failing_sum.Statement.{statement}
-use Rattle.sector.proofs.judge_failing_sum.Tie as tie
-use Rattle.sector.proofs.judge_failing_sum.Reads as reads
-use Rattle.sector.proofs.judge_failing_sum.Lts as lts
+use Rattle.verdict.proofs.judge_failing_sum.Statement.{statement}
+use Rattle.verdict.proofs.judge_failing_sum.Tie as tie
+use Rattle.verdict.proofs.judge_failing_sum.Reads as reads
+use Rattle.verdict.proofs.judge_failing_sum.Lts as lts
 use Rattle.block.proofs.copy.Reads as copy-reads
-use Rattle.sector.proofs.opens.Reads as opens-reads
+use Rattle.verdict.proofs.opens.Reads as opens-reads
 
 -- the place where both sides are opened, and what is known there
 abbrev Opened : Type 0

@@ -8,8 +8,8 @@ use Rattle.block.specs.Bytes.{Plain, xorBytes}
 use Rattle.block.proofs.Lists.{xor-bytes-comm, xor-bytes-cancel}
 use Rattle.mode.specs.Sealing.{Triple}
 use Rattle.mode.specs.Scheme.{Place, local, tag, remote, Sector, Scheme, Lawful}
-use Rattle.sector.specs.Verdict.{Fits, FitsTwo, Verdict, whole, doubtful, lost, clashing, candidate, Means, judge}
-use Rattle.sector.proofs.JudgeExact.{local-tag, tag-remote, FitsBut, but-local, but-tag, but-remote, two-but, but-two, only, candidate-plain, judge-exact}
+use Rattle.verdict.specs.Verdict.{Fits, FitsTwo, Verdict, whole, doubtful, lost, clashing, candidate, Means, judge}
+use Rattle.verdict.proofs.JudgeExact.{local-tag, tag-remote, FitsBut, but-local, but-tag, but-remote, two-but, but-two, only, candidate-plain, judge-exact}
 
 module _ (s : ℕ) (S : Scheme) (L : Lawful s S) (T : ℕ) (t : Triple) (σ : Sector s t) where
   abbrev P₁ : List ℕ

@@ -1,11 +1,11 @@
 use mathlib.Core.Path.{sym, _∙_}
 use Rattle.block.proofs.Lists.{bytes-all}
-use Rattle.sector.proofs.Judging.{Known, known-of, remote-test, tag-test, all-fit, sum-fits, sum-fails}
+use Rattle.verdict.proofs.Judging.{Known, known-of, remote-test, tag-test, all-fit, sum-fits, sum-fails}
 use borrow.Author.Needs.{needs}
-use Rattle.sector.proofs.judge_in.Statement.{statement}
-use Rattle.sector.proofs.judge_in.Tie as tie
-use Rattle.sector.proofs.judge_in.Reads as reads
-use Rattle.sector.proofs.judge_in.Lts as lts
+use Rattle.verdict.proofs.judge_in.Statement.{statement}
+use Rattle.verdict.proofs.judge_in.Tie as tie
+use Rattle.verdict.proofs.judge_in.Reads as reads
+use Rattle.verdict.proofs.judge_in.Lts as lts
 use Rattle.block.proofs.copy.Reads as copy-reads
 use Rattle.block.proofs.equal.Reads as equal-reads
 use Rattle.block.proofs.load.Reads as load-reads
@@ -13,8 +13,8 @@ use Rattle.block.proofs.same.Reads as same-reads
 use Rattle.block.proofs.xor_bytes.Reads as xor-bytes-reads
 use Rattle.mode.proofs.tag_block.Reads as tag-block-reads
 use Rattle.mode.proofs.transform.Reads as transform-reads
-use Rattle.sector.proofs.judge_failing_sum.Reads as judge-failing-sum-reads
-use Rattle.sector.proofs.judge_fitting_sum.Reads as judge-fitting-sum-reads
+use Rattle.verdict.proofs.judge_failing_sum.Reads as judge-failing-sum-reads
+use Rattle.verdict.proofs.judge_fitting_sum.Reads as judge-fitting-sum-reads
 
 -- the place where the remote side of the sum is compared, and what is known there
 abbrev Compared : Type 0

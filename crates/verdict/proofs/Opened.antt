@@ -1,8 +1,8 @@
--- The answers of open and rebuild from what the code has worked out. Assumes nothing.
+-- What opening a side finds, and the other side rebuilt from it, from what the code has worked out. Assumes nothing.
 use mathlib.Core.Path.{_≡_, refl, sym, ap, ap₂, _∙_, subst}
 use mathlib.Core.Bool.{Bool, true, false}
-use mathlib.Core.List.{List, _++_}
-use mathlib.Core.Option.{Option, none, some}
+use mathlib.Core.List.{List}
+use mathlib.Core.Option.{none, some}
 use Prim.Native.Nat.{ℕ, _%_}
 use lib.ListN.{length, take, drop}
 use Rattle.block.specs.Bytes.{Bytes, Plain, fromBytes, blocksOf, same}
@@ -12,17 +12,14 @@ use Rattle.aes.specs.Aes.{cipherNumber}
 use Rattle.aes.proofs.Bounds.{cipher-lt}
 use Rattle.hash.specs.Powers.{keyOf}
 use Rattle.mode.specs.declared.Direction.{Direction}
-use Rattle.mode.specs.Sealing.{blockwise, tagBlock, pad, localBlock, remoteBlock, sides, sealedBy, tweak, sealed}
-use Rattle.mode.specs.Scheme.{on, Scheme, Lawful, dcm, scheme}
+use Rattle.mode.specs.Sealing.{blockwise, tagBlock, pad, localBlock, remoteBlock, sides, sealedBy}
+use Rattle.mode.specs.Scheme.{on, Scheme, Lawful, dcm}
 use Rattle.mode.specs.Transforms.{transformed}
 use Rattle.mode.proofs.Laws.{tag-lt, dcm-lawful}
-use Rattle.sector.specs.Answers.{firstOf}
-use Rattle.sector.specs.Calls.{key, keyRules, sizeRules, sideRules, sideOf, openOutcome, openCall, rebuildCall}
-use Rattle.sector.specs.Judging.{schemeOf, sealingOf}
-use Rattle.sector.specs.Verdict.{Side, localSide, remoteSide, placeOf, otherSide, openSide, opened, Opens}
-use Rattle.sector.proofs.OpenExact.{open-plain, opens-one, opened-some, opened-none}
-use Rattle.sector.proofs.Public.{settle-some, settle-none}
-use Rattle.sector.proofs.Sides.{tag-loaded}
+use Rattle.verdict.specs.Judging.{schemeOf, sealingOf}
+use Rattle.verdict.specs.Verdict.{Side, localSide, remoteSide, placeOf, otherSide, openSide, opened, Opens}
+use Rattle.verdict.proofs.OpenExact.{open-plain, opens-one, opened-some, opened-none}
+use Rattle.verdict.proofs.Sides.{tag-loaded}
 
 -- a side x and a tag g as lent
 pub record Side-known (x g : List ℕ) : Type 0 where
@@ -86,37 +83,3 @@ module _ (w p : List ℕ) (T : ℕ) (d : Side) (x g : List ℕ) (known : Side-kn
             ≡ on (S .sealed T o) (placeOf (otherSide d))
         side localSide = refl
         side remoteSide = refl
-
--- ---- the calls
-
-pub opened-by : (f : List ℕ → List ℕ) (out : List ℕ) {r : Option (List ℕ)} {P o : List ℕ} → r ≡ some P → o ≡ f P → openOutcome f r out ≡ (0, o)
-opened-by f out e eo = ap (λ r. openOutcome f r out) e ∙ ap (λ (Q : List ℕ). (0, Q)) (sym eo)
-
-pub opened-by-none : (f : List ℕ → List ℕ) (out : List ℕ) {r : Option (List ℕ)} → r ≡ none → openOutcome f r out ≡ (5, out)
-opened-by-none f out e = ap (λ r. openOutcome f r out) e
-
-module _ (k : List ℕ) (address d : ℕ) (x g out : List ℕ) where
-  abbrev open-rules : Option ℕ
-  open-rules = firstOf (keyRules (key k) ++ (sizeRules (length x) (length out) (length out) (length g) ++ sideRules d))
-
-  abbrev result : Option (List ℕ)
-  result = opened (scheme (key k)) (tweak address) (sideOf d) g x
-
-  pub open-refuses : {n : ℕ} → open-rules ≡ some n → openCall (key k) address d x g out ≡ (n, out)
-  unfolding openCall
-  open-refuses e = settle-some (openOutcome (λ P. P) result out) out e
-
-  pub open-passes : open-rules ≡ none → openCall (key k) address d x g out ≡ openOutcome (λ P. P) result out
-  unfolding openCall
-  open-passes e = settle-none (openOutcome (λ P. P) result out) out e
-
-  abbrev opposite : List ℕ → List ℕ
-  opposite P = on (sealed (key k) address P) (placeOf (otherSide (sideOf d)))
-
-  pub rebuild-refuses : {n : ℕ} → open-rules ≡ some n → rebuildCall (key k) address d x g out ≡ (n, out)
-  unfolding rebuildCall
-  rebuild-refuses e = settle-some (openOutcome opposite result out) out e
-
-  pub rebuild-passes : open-rules ≡ none → rebuildCall (key k) address d x g out ≡ openOutcome opposite result out
-  unfolding rebuildCall
-  rebuild-passes e = settle-none (openOutcome opposite result out) out e

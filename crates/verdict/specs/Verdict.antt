@@ -5,7 +5,7 @@ use mathlib.Core.Logic.{_↔_}
 use mathlib.Core.Bool.{Bool, true, _&&_, _||_, cond}
 use mathlib.Core.List.{List, [], _∷_}
 use mathlib.Core.Option.{Option, none, some}
-use Prim.Native.Nat.{ℕ}
+use Prim.Native.Nat.{ℕ, zero, suc}
 use Rattle.block.specs.Bytes.{Plain, xorBytes, same}
 use Rattle.mode.specs.Sealing.{Triple}
 use Rattle.mode.specs.Scheme.{Place, local, tag, remote, on, Sector, Scheme}
@@ -90,6 +90,11 @@ judge S T t =
 
 pub data Side : Type 0 where
   localSide remoteSide : Side
+
+-- the side with the number d: 0 is local, 1 remote
+abbrev pub sideOf : ℕ → Side
+sideOf zero = localSide
+sideOf (suc d) = remoteSide
 
 abbrev pub placeOf : Side → Place
 placeOf localSide = local

@@ -1,9 +1,9 @@
 use mathlib.Core.Path.{sym, ap}
-use Rattle.sector.specs.Judging.{openingOf}
-use Rattle.sector.proofs.Sides.{side-other}
+use Rattle.verdict.specs.Judging.{openingOf}
+use Rattle.verdict.proofs.Sides.{side-other}
 use borrow.Author.Needs.{needs}
-use Rattle.sector.proofs.opening.Statement.{statement}
-use Rattle.sector.proofs.opening.Tie as tie
+use Rattle.verdict.proofs.opening.Statement.{statement}
+use Rattle.verdict.proofs.opening.Tie as tie
 
 returns : tie.Need-returns
 returns c = search needs

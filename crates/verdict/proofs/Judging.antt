@@ -17,12 +17,11 @@ use Rattle.mode.specs.Sealing.{Triple, blockwise, tagBlock, pad, remoteBlock, s
 use Rattle.mode.specs.Scheme.{Place, local, tag, remote, on, wide, Sector, Scheme, Lawful, dcm}
 use Rattle.mode.specs.Transforms.{transformed}
 use Rattle.mode.proofs.Laws.{dcm-lawful}
-use Rattle.sector.specs.Calls.{triple, verdictOutcome}
-use Rattle.sector.specs.Judging.{schemeOf, Lent, judgedBy, SumFits, SumFails}
-use Rattle.sector.specs.Verdict.{Fits, fits, candidate, judge, Verdict, Side, localSide, remoteSide, openSide}
-use Rattle.sector.proofs.JudgeExact.{fits-Fits, misfits}
-use Rattle.sector.proofs.Cases as cases
-use Rattle.sector.proofs.Sides.{tag-compared}
+use Rattle.verdict.specs.Judging.{triple, verdictOutcome, schemeOf, Lent, judgedBy, SumFits, SumFails}
+use Rattle.verdict.specs.Verdict.{Fits, fits, candidate, judge, Verdict, Side, localSide, remoteSide, openSide}
+use Rattle.verdict.proofs.JudgeExact.{fits-Fits, misfits}
+use Rattle.verdict.proofs.Cases as cases
+use Rattle.verdict.proofs.Sides.{tag-compared}
 
 -- what is known of the three places
 pub record Known (l g r : List ℕ) : Type 0 where

@@ -2,8 +2,8 @@ use mathlib.Core.Path.{refl}
 use native.Mathlib.Omega.{arith}
 use Rattle.block.specs.Value.{value}
 use Rattle.mode.proofs.Laws.{tweak-is}
-use Rattle.sector.proofs.context.Statement.{statement}
-use Rattle.sector.proofs.context.Tie as tie
+use Rattle.verdict.proofs.context.Statement.{statement}
+use Rattle.verdict.proofs.context.Tie as tie
 
 returns : tie.Need-returns
 unfolding value

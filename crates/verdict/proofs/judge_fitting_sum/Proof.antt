@@ -1,14 +1,14 @@
 use mathlib.Core.Path.{sym, ap, _∙_}
 use lib.ListN.{length}
 use Rattle.block.proofs.Lists.{bytes-all, length-xor}
-use Rattle.sector.proofs.Judging.{Known, known-of, clash-left, clash-right, sum-only}
+use Rattle.verdict.proofs.Judging.{Known, known-of, clash-left, clash-right, sum-only}
 use borrow.Author.Needs.{needs}
-use Rattle.sector.proofs.judge_fitting_sum.Statement.{statement}
-use Rattle.sector.proofs.judge_fitting_sum.Tie as tie
-use Rattle.sector.proofs.judge_fitting_sum.Reads as reads
-use Rattle.sector.proofs.judge_fitting_sum.Lts as lts
+use Rattle.verdict.proofs.judge_fitting_sum.Statement.{statement}
+use Rattle.verdict.proofs.judge_fitting_sum.Tie as tie
+use Rattle.verdict.proofs.judge_fitting_sum.Reads as reads
+use Rattle.verdict.proofs.judge_fitting_sum.Lts as lts
 use Rattle.block.proofs.copy.Reads as copy-reads
-use Rattle.sector.proofs.opens.Reads as opens-reads
+use Rattle.verdict.proofs.opens.Reads as opens-reads
 
 -- the place where the local side is opened, and what is known there
 abbrev Opened : Type 0

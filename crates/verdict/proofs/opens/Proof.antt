@@ -1,10 +1,10 @@
 use Rattle.block.specs.Value.{value}
 use Rattle.block.proofs.Lists.{bytes-all}
-use Rattle.sector.specs.Calls.{sideOf}
-use Rattle.sector.proofs.Sides.{side-opened, tag-compared}
+use Rattle.verdict.specs.Verdict.{sideOf}
+use Rattle.verdict.proofs.Sides.{side-opened, tag-compared}
 use borrow.Author.Needs.{needs}
-use Rattle.sector.proofs.opens.Statement.{statement}
-use Rattle.sector.proofs.opens.Tie as tie
+use Rattle.verdict.proofs.opens.Statement.{statement}
+use Rattle.verdict.proofs.opens.Tie as tie
 
 load-requires : tie.Need-load-requires
 load-requires c κs = search needs

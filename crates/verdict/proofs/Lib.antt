@@ -1,0 +1,8 @@
+pub mod Rules
+pub mod JudgeExact
+pub mod OpenExact
+pub mod Cases
+pub mod Sides
+pub mod Judging
+pub mod Opened
+pub mod Prepared
