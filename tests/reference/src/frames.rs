@@ -2,7 +2,7 @@
 
 use crate::answer::{Refusal, Success};
 use crate::hex;
-use crate::seal::{check_sector_size, combine, judge, KEY_BYTES, TAG_BYTES};
+use crate::seal::{check_sector_size, combine, judge, Sealed, KEY_BYTES, TAG_BYTES};
 
 /// The digits of the longest frame: kind `01` with the largest sectors.
 const MAX_DIGITS: usize = 16_498;
@@ -85,4 +85,18 @@ fn answer_combine(fields: &[u8]) -> Result<(u8, Vec<u8>), Refusal> {
     let mut plaintext = vec![0; size];
     combine(local, remote, &mut plaintext)?;
     Ok((0, plaintext))
+}
+
+/// A frame of kind `01` in digits, without its line feed.
+pub fn judge_frame(key: &[u8], address: u64, held: &Sealed) -> String {
+    let bytes = [
+        &[1],
+        key,
+        &address.to_be_bytes(),
+        &held.local,
+        &held.tag,
+        &held.remote,
+    ]
+    .concat();
+    hex::encode(&bytes)
 }

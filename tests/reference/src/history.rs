@@ -394,7 +394,7 @@ impl<'a> History<'a> {
             _ => {
                 let plaintext = self.rng.pick(&self.pool).clone();
                 let sealed = sealed(&self.given.key, number as u64, &plaintext);
-                bytes = sealed_place(&sealed, place).to_vec();
+                bytes = sealed.place(place).to_vec();
             }
         }
         bytes
@@ -493,7 +493,7 @@ impl<'a> History<'a> {
         }
         let held = self.held(number);
         let sealed = sealed(&self.given.key, number as u64, &plaintext);
-        let verdict = if sealed_place(&sealed, place) == sealed_place(&held, place) {
+        let verdict = if sealed.place(place) == held.place(place) {
             self.tally.add("seen whole in doubt");
             Verdict::Whole
         } else {
@@ -555,14 +555,6 @@ fn ending(cut: bool, tag_is_new: bool) -> Ending {
         Ending::Cut { tag_is_new }
     } else {
         Ending::Finished
-    }
-}
-
-fn sealed_place(sealed: &Sealed, place: Place) -> &[u8] {
-    match place {
-        Place::Local => &sealed.local,
-        Place::Tag => &sealed.tag,
-        Place::Remote => &sealed.remote,
     }
 }
 

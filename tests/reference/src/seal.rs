@@ -338,6 +338,24 @@ pub struct Sealed {
     pub remote: Vec<u8>,
 }
 
+impl Sealed {
+    pub fn place(&self, place: Place) -> &[u8] {
+        match place {
+            Place::Local => &self.local,
+            Place::Tag => &self.tag,
+            Place::Remote => &self.remote,
+        }
+    }
+
+    pub fn place_mut(&mut self, place: Place) -> &mut Vec<u8> {
+        match place {
+            Place::Local => &mut self.local,
+            Place::Tag => &mut self.tag,
+            Place::Remote => &mut self.remote,
+        }
+    }
+}
+
 /// Seals a plaintext under a key, both of which must pass.
 pub fn sealed(key: &[u8], address: u64, plaintext: &[u8]) -> Sealed {
     let mut sealed = Sealed {

@@ -1,13 +1,12 @@
 //! The program `frames`, as a function and as a program.
 
-mod common;
-
 use std::io::Write;
 use std::process::{Command, Stdio};
 
-use reference::frames::run;
+use reference::frames::{judge_frame, run};
 use reference::hex;
 use reference::rng::Rng;
+use reference::seal::sealed;
 
 const LARGEST: usize = 4096;
 
@@ -20,20 +19,6 @@ fn example() -> (String, String) {
     let input = format!("ff\n02{zeros}03ff{zeros}0200\n");
     let output = format!("0c\n00{zeros}01ff\n");
     (input, output)
-}
-
-/// A frame of kind `01` in digits, without its line feed.
-fn judge_frame(key: &[u8], address: u64, held: &common::Sealed) -> String {
-    let bytes = [
-        &[1],
-        key,
-        &address.to_be_bytes(),
-        &held.local,
-        &held.tag,
-        &held.remote,
-    ]
-    .concat();
-    hex::encode(&bytes)
 }
 
 #[test]
@@ -120,7 +105,7 @@ fn verdicts() {
     for size in [16, 32, 48, 64, 512, LARGEST] {
         let (key, address) = (rng.bytes(32), rng.next_u64());
         let plaintext = rng.bytes(size);
-        let sealed = common::seal(&key, address, &plaintext);
+        let sealed = sealed(&key, address, &plaintext);
         let digits = hex::encode(&plaintext);
 
         let frame = judge_frame(&key, address, &sealed);
@@ -150,7 +135,7 @@ fn clash() {
     let zero = [&key[..16], &[0; 16]].concat();
     let mut one = zero.clone();
     one[31] = 1;
-    let mut held = common::seal(&key, address, &zero);
-    held.remote = common::seal(&key, address, &one).remote;
+    let mut held = sealed(&key, address, &zero);
+    held.remote = sealed(&key, address, &one).remote;
     assert_eq!(answer(&judge_frame(&key, address, &held)), "07\n");
 }

@@ -2,13 +2,13 @@
 
 mod common;
 
-use common::Sealed;
 use reference::aes::Aes128;
 use reference::answer::{answer_number, Place, Refusal, Verdict};
 use reference::collide::{blind_pair, steer};
 use reference::field::{product, to_block, to_blocks, to_bytes};
 use reference::rng::Rng;
 use reference::seal::{combine, judge, open, rebuild, seal};
+use reference::seal::{sealed, Sealed};
 
 const SIZES: [usize; 6] = [16, 32, 48, 64, 512, 4096];
 const FILL: u8 = 0x5a;
@@ -25,14 +25,6 @@ fn judged(key: &[u8], address: u64, held: &Sealed) -> (Result<Verdict, Refusal>,
         &mut output,
     );
     (answer, output)
-}
-
-fn place_mut(held: &mut Sealed, place: Place) -> &mut Vec<u8> {
-    match place {
-        Place::Local => &mut held.local,
-        Place::Tag => &mut held.tag,
-        Place::Remote => &mut held.remote,
-    }
 }
 
 #[test]
@@ -52,7 +44,7 @@ fn round_trips() {
 
 fn round_trip(key: &[u8], address: u64, plaintext: &[u8]) {
     let size = plaintext.len();
-    let sealed = common::seal(key, address, plaintext);
+    let sealed = sealed(key, address, plaintext);
     assert_eq!(
         judged(key, address, &sealed),
         (Ok(Verdict::Whole), plaintext.to_vec())
@@ -83,10 +75,10 @@ fn damage_gives_the_doubtful_place_or_lost() {
         for _ in 0..if size > 512 { 1 } else { 10 } {
             let (key, address) = (rng.bytes(32), rng.next_u64());
             let plaintext = rng.bytes(size);
-            let sealed = common::seal(&key, address, &plaintext);
+            let sealed = sealed(&key, address, &plaintext);
             for place in Place::ALL {
                 let mut damaged = sealed.clone();
-                let bytes = place_mut(&mut damaged, place);
+                let bytes = damaged.place_mut(place);
                 let position = rng.below(bytes.len());
                 bytes[position] ^= 1 << rng.below(8);
                 assert_eq!(
@@ -95,7 +87,7 @@ fn damage_gives_the_doubtful_place_or_lost() {
                 );
                 // A second place goes too, and nothing is left to go by.
                 let second = Place::ALL[usize::from(place.number()) % 3];
-                rng.fill(place_mut(&mut damaged, second));
+                rng.fill(damaged.place_mut(second));
                 assert_eq!(
                     judged(&key, address, &damaged),
                     (Err(Refusal::Lost), vec![FILL; size])
@@ -110,7 +102,7 @@ fn opening_needs_both_to_fit() {
     let mut rng = Rng::new(12);
     for size in SIZES {
         let (key, address) = (rng.bytes(32), rng.next_u64());
-        let sealed = common::seal(&key, address, &rng.bytes(size));
+        let sealed = sealed(&key, address, &rng.bytes(size));
         let other_tag = rng.bytes(16);
         let cases = [
             (1, address, &sealed.local, &sealed.tag),
@@ -135,8 +127,8 @@ fn opening_needs_both_to_fit() {
 fn insist_on_clash(key: &[u8], address: u64, one: &[u8], other: &[u8]) {
     assert_ne!(one, other);
     let size = one.len();
-    let first = common::seal(key, address, one);
-    let second = common::seal(key, address, other);
+    let first = sealed(key, address, one);
+    let second = sealed(key, address, other);
     assert_eq!(first.tag, second.tag);
     for (a, b) in [(&first, &second), (&second, &first)] {
         let held = Sealed {
@@ -241,7 +233,7 @@ fn second_sealing_agrees() {
         let (key, address) = (rng.bytes(32), rng.next_u64());
         let plaintext = rng.bytes(16 * blocks);
         let second = second_seal(encrypt, &key, address, &plaintext);
-        assert_eq!(Some(common::seal(&key, address, &plaintext)), second);
+        assert_eq!(Some(sealed(&key, address, &plaintext)), second);
     }
 }
 
@@ -257,7 +249,7 @@ fn openssl_sealing_agrees() {
         let Some(outside) = second_seal(encrypt, &key, address, &plaintext) else {
             return;
         };
-        assert_eq!(common::seal(&key, address, &plaintext), outside);
+        assert_eq!(sealed(&key, address, &plaintext), outside);
     }
 }
 

@@ -7,6 +7,7 @@ use reference::answer::Refusal;
 use reference::brw::brw;
 use reference::field::{double, product, to_bytes};
 use reference::rng::Rng;
+use reference::seal::sealed;
 use reference::seal::{judge, local_block, remote_block, tweak};
 
 const TOP_BIT: u128 = 1 << 127;
@@ -56,8 +57,8 @@ fn row_h_pair_clashes() {
         assert_eq!(brw(h, &[h, 1, tweak(address)]), tweak(address));
 
         let key = common::key_with_h(&mut rng, h);
-        let one = common::seal(&key, address, &to_bytes(&[h, 0]));
-        let other = common::seal(&key, address, &to_bytes(&[h, 1]));
+        let one = sealed(&key, address, &to_bytes(&[h, 0]));
+        let other = sealed(&key, address, &to_bytes(&[h, 1]));
         assert_eq!(one.tag, other.tag);
         for (local, remote) in [(&one.local, &other.remote), (&other.local, &one.remote)] {
             let mut output = [0x5a; 32];

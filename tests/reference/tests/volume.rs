@@ -1,10 +1,9 @@
 //! The volume calls: what each writes, and every refusal in its order.
 
-mod common;
-
 use reference::answer::{answer_number, Place, Refusal, Verdict};
 use reference::field::to_bytes;
 use reference::rng::Rng;
+use reference::seal::sealed;
 use reference::volume::{
     blank, first_stage, mend, part, read, second_stage, survey, third_stage, Survey,
 };
@@ -156,7 +155,7 @@ fn blank_seals_zeros() {
     for size in [16, 64, 4096] {
         let mut volume = Volume::random(&mut rng, size, 3);
         let mut due = volume.clone();
-        let sealed = common::seal(&due.key, 1, &vec![0; size]);
+        let sealed = sealed(&due.key, 1, &vec![0; size]);
         due.place_mut(1, Place::Local)
             .copy_from_slice(&sealed.local);
         due.place_mut(1, Place::Tag).copy_from_slice(&sealed.tag);
@@ -176,7 +175,7 @@ fn stages_write_one_place_each() {
         let mut volume = Volume::blanked(&mut rng, size, 4);
         let zeros = vec![0; size];
         let plaintext = rng.bytes(size);
-        let sealed = common::seal(&volume.key, 2, &plaintext);
+        let sealed = sealed(&volume.key, 2, &plaintext);
         let mut due = volume.clone();
 
         // Out of turn, the later stages are refused.
@@ -233,8 +232,8 @@ fn one_of_each(rng: &mut Rng) -> Volume {
     let mut volume = Volume::blanked(rng, 32, 4);
     volume.place_mut(1, Place::Tag)[3] ^= 4;
     let h = u128::from_be_bytes(volume.key[..16].try_into().expect("16 bytes"));
-    let one = common::seal(&volume.key, 2, &to_bytes(&[h, 0]));
-    let other = common::seal(&volume.key, 2, &to_bytes(&[h, 1]));
+    let one = sealed(&volume.key, 2, &to_bytes(&[h, 0]));
+    let other = sealed(&volume.key, 2, &to_bytes(&[h, 1]));
     volume
         .place_mut(2, Place::Local)
         .copy_from_slice(&one.local);

@@ -8,8 +8,6 @@ use reference::field::product;
 use reference::hex;
 use reference::rng::Rng;
 
-pub use reference::seal::{sealed as seal, Sealed};
-
 /// A key of given h with a random AES key.
 pub fn key_with_h(rng: &mut Rng, h: u128) -> Vec<u8> {
     [h.to_be_bytes().to_vec(), rng.bytes(16)].concat()
