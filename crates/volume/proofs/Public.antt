@@ -25,20 +25,20 @@ use Rattle.volume.proofs.Refusals.{passed, long-3, shape-facts, refusal
 
 -- ---- ranges
 
-part-end : (w n i : ℕ) → i < n → i * w + w ≤ n * w
+pub part-end : (w n i : ℕ) → i < n → i * w + w ≤ n * w
 part-end w n i h = subst (λ (m : ℕ). m ≤ n * w) (suc-mul i w) (mul-le-mul-right w h)
 
-count-le : (s n : ℕ) (v : Triple) → isShape s n v ≡ true → n ≤ 65536
+pub count-le : (s n : ℕ) (v : Triple) → isShape s n v ≡ true → n ≤ 65536
 unfolding isShape shape
 count-le s n v e = leb-true n 65536 (and-left (leb n 65536) _ (and-right (leb 1 n) _ e))
 
-size-facts : (s : ℕ) → isSize s ≡ true → (s % 16 ≡ 0) × (s ≤ 4096)
+pub size-facts : (s : ℕ) → isSize s ≡ true → (s % 16 ≡ 0) × (s ≤ 4096)
 unfolding isSize
 size-facts s e =
     let u = and-right (leb 16 s) (leb s 4096 && eqb (s % 16) 0) e in
     (eqb-true (s % 16) 0 (and-right (leb s 4096) (eqb (s % 16) 0) u), leb-true s 4096 (and-left (leb s 4096) (eqb (s % 16) 0) u))
 
-key-size : (k : Key) → isKey k ≡ true → length (k .bytes) ≡ 32
+pub key-size : (k : Key) → isKey k ≡ true → length (k .bytes) ≡ 32
 unfolding isKey
 key-size k e = eqb-true (length (k .bytes)) 32 e
 

@@ -1,0 +1,153 @@
+-- The survey, sector by sector: what each verdict adds, the loop's invariant, and the call's refusals. Assumes nothing.
+use mathlib.Core.Path.{_≡_, refl, sym, ap, ap₂, subst, _∙_}
+use mathlib.Core.Bool.{Bool, true, false, not, cond}
+use mathlib.Core.List.{List, [], _∷_, _++_, append-assoc}
+use mathlib.Core.Option.{Option, none, some}
+use Prim.Native.Nat.{ℕ, zero, suc, _+_, _*_, _-_, _/_, _<_, _≤_}
+use native.Mathlib.Numerals.{add-one}
+use native.Mathlib.Omega.{arith}
+use lib.Dec.{ltb}
+use lib.ListN.{length, drop, set, length-append, length-drop, length-set}
+use lib.Seq.{drop-cons, set-at}
+use borrow.Author.Tests.{not-false, ltb-false}
+use Rattle.mode.specs.declared.Context.{Context}
+use Rattle.mode.specs.declared.Prepared.{Prepared}
+use Rattle.mode.specs.Prepared.{PreparedFor, Ready}
+use Rattle.mode.specs.Scheme.{Place, local, tag, remote, on, isKey, isSize, Scheme, scheme}
+use Rattle.mode.specs.Sealing.{Triple, Key, tweak}
+use Rattle.block.specs.Value.{value}
+use Rattle.block.specs.Bytes.{part}
+use Rattle.sector.specs.declared.Judged.{Judged}
+use Rattle.sector.specs.declared.Judged.the-variants as J
+use Rattle.sector.specs.Answers.{Rule, firstOf, judgedNumber}
+use Rattle.sector.specs.Calls.{key, triple, keyRules, verdictOutcome}
+use Rattle.sector.specs.Judging.{schemeOf, judgedBy}
+use Rattle.sector.specs.Verdict.{Verdict, whole, doubtful, lost, clashing, fits, fitsTwo, candidate, grade, judge}
+use Rattle.sector.proofs.Prepared.{scheme-is}
+use Rattle.volume.specs.declared.Counts.{Counts}
+use Rattle.volume.specs.Answers.{isWhole, isDoubtful, isClashing, isLost}
+use Rattle.volume.specs.Lent.{Within, placesOf, verdictNumber}
+use Rattle.volume.specs.Survey.{tally, listed, health, countsOf, written, Report, counted, refused, surveyRules, listRules, verdictAt, surveyed, settled, surveyOutcome, Room, verdictBy, Tells, addIf, counting, CountsOne, ListsOne}
+use Rattle.volume.specs.Volume.{shape, isShape, mirror}
+use Rattle.volume.proofs.Public.{part-end, count-le, size-facts}
+use Rattle.volume.proofs.Refusals.{cond-none, append-none, shape-facts}
+use Rattle.volume.proofs.Tallies.{tally-le, length-listed}
+
+-- ---- the loop
+
+-- after the first i sectors, of a list that was `old`
+pub record Surveys (w : ℕ → Verdict) (old : List ℕ) (i : ℕ) (c : Counts) (list : List ℕ) : Type 0 where
+  pub counts : c ≡ countsOf w i 0
+  pub entries : list ≡ written w i old
+  pub size : length list ≡ length old
+  pub whole-most : c .whole ≤ i
+  pub doubtful-most : c .doubtful ≤ i
+  pub clashing-most : c .clashing ≤ i
+  pub lost-most : c .lost ≤ i
+
+-- the counts are no more than i, by what they are
+surveys : (w : ℕ → Verdict) (old : List ℕ) (i : ℕ) (c : Counts) (list : List ℕ) → c ≡ countsOf w i 0 → list ≡ written w i old → length list ≡ length old → Surveys w old i c list
+surveys w old i c list e d z = record {
+  counts = e;
+  entries = d;
+  size = z;
+  whole-most = subst (λ (x : Counts). x .whole ≤ i) (sym e) (tally-le isWhole w i);
+  doubtful-most = subst (λ (x : Counts). x .doubtful ≤ i) (sym e) (tally-le isDoubtful w i);
+  clashing-most = subst (λ (x : Counts). x .clashing ≤ i) (sym e) (tally-le isClashing w i);
+  lost-most = subst (λ (x : Counts). x .lost ≤ i) (sym e) (tally-le isLost w i);
+}
+
+module _ (w : ℕ → Verdict) (old : List ℕ) where
+  pub surveys-none : Surveys w old 0 (record { whole = 0; doubtful = 0; clashing = 0; lost = 0; health = 0 }) old
+  unfolding tally listed
+  surveys-none = surveys w old 0 _ old refl refl refl
+
+  module _ (i : ℕ) where
+    -- the next entry is behind those that are written
+    pub entry : {c : Counts} {list : List ℕ} → Surveys w old i c list → i - c .whole ≡ length (listed w i)
+    entry v = let e : _ ≡ tally isWhole w i = ap (λ (x : Counts). x .whole) (v .counts) in omega (arith, length-listed w i)
+
+    counts-next : {c d : Counts} → c ≡ countsOf w i 0 → d ≡ counting (w i) c → d ≡ countsOf w (suc i) 0
+    unfolding tally
+    counts-next e d = d ∙ ap (counting (w i)) e
+
+    list-next : length (listed w i) < length old → {list new : List ℕ} → list ≡ written w i old → new ≡ cond (isWhole (w i)) list (set list (length (listed w i)) i) → new ≡ written w (suc i) old
+    unfolding listed
+    list-next h {list} {new} e d = d ∙ go (isWhole (w i))
+      where
+        l : List ℕ
+        l = listed w i
+
+        go : (b : Bool) → cond b list (set list (length l) i) ≡ cond b l (l ++ i ∷ []) ++ drop (length (cond b l (l ++ i ∷ []))) old
+        go true = e
+        go false = ?
+
+    pub surveys-next : {c d : Counts} {list new : List ℕ} (j : Judged) → Surveys w old i c list → i < length old → Tells j (w i)
+        → CountsOne j c d → ListsOne j (i - c .whole) i list new → length new ≡ length list → Surveys w old (i + 1) d new
+    surveys-next {c} {d} {list} {new} j v h e f g z =
+        let at : i - c .whole ≡ length (listed w i) = entry v in
+        let lt : length (listed w i) < length old = omega (arith, length-listed w i) in
+        let x : new ≡ cond (isWhole (w i)) list (set list (length (listed w i)) i) = g (w i) e ∙ ap (λ (k : ℕ). cond (isWhole (w i)) list (set list k i)) at in
+        subst (λ (k : ℕ). Surveys w old k d new) (sym (add-one i))
+        (surveys w old (suc i) d new (counts-next (v .counts) (f (w i) e)) (list-next lt (v .entries) x) (z ∙ v .size))
+
+  -- the health of them all
+  pub surveys-all : (n : ℕ) {c : Counts} {list : List ℕ} → Surveys w old n c list
+      → surveyed w n old ≡ (counted (record { whole = c .whole; doubtful = c .doubtful; clashing = c .clashing; lost = c .lost; health = c .whole * 1000 / n }), list)
+  unfolding health
+  surveys-all n {c} {list} v =
+      ap₂ (λ (x : Counts) (l : List ℕ). (counted (record { whole = x .whole; doubtful = x .doubtful; clashing = x .clashing; lost = x .lost; health = x .whole * 1000 / n }), l))
+      (sym (v .counts)) (sym (v .entries))
+
+-- ---- the prepared key
+
+pub verdict-by : (w p : List ℕ) (m : Context) (s i : ℕ) (l g r out new : List ℕ) (j : Judged) → value (m .tweak) ≡ tweak i
+    → judgedBy w p m (part s i l) (part 16 i g) (part s i r) out ≡ (judgedNumber j, new) → Tells j (verdictBy (schemeOf w p) s l g r i)
+verdict-by w p m s i l g r out new j em e =
+    ap (λ (x : ℕ × List ℕ). x .0) (sym e) ∙ number (judge (schemeOf w p) (value (m .tweak)) (placesOf s i l g r))
+    ∙ ap (λ (T : ℕ). verdictNumber (judge (schemeOf w p) T (placesOf s i l g r))) em
+  where
+    number : (x : Verdict) → verdictOutcome x out .0 ≡ verdictNumber x
+    number (whole P) = refl
+    number (doubtful d P) = refl
+    number lost = refl
+    number clashing = refl
+
+pub survey-keyed : (k : List ℕ) (r : Prepared) → PreparedFor k r → (s n : ℕ) (l g x list : List ℕ)
+    → surveyed (verdictBy (schemeOf (r .words) (r .powers)) s l g x) n list ≡ surveyed (verdictAt (mirror (key k)) s (triple l g x)) n list
+unfolding judge grade fitsTwo fits candidate mirror
+survey-keyed k r e s n l g x list = ap (λ (S : Scheme). surveyed (verdictBy S s l g x) n list) (scheme-is k r e)
+
+pub within-room : (s n i l g r room : ℕ) → Room s n l g r room → i < n → Within s i l g r
+within-room s n i l g r room z h =
+    let p = part-end s n i h in
+    let q = part-end 16 n i h in
+    record { blocks = z .blocks; most = z .most; number = omega arith; local-end = omega arith; tag-end = omega arith; remote-end = omega arith }
+
+-- ---- the refusals
+
+module _ (v : Triple) (k : Key) (s n : ℕ) (list : List ℕ) where
+  abbrev rules : List Rule
+  rules = surveyRules k s n (isShape s n v) (length list)
+
+  -- what passing them shows
+  pub room : firstOf rules ≡ none → (firstOf (keyRules k) ≡ none) × Room s n (length (v .local)) (length (v .tag)) (length (v .remote)) (length list)
+  room e =
+      let u = append-none (keyRules k) (listRules s n (isShape s n v) (length list)) e in
+      let a = cond-none (not (isSize s)) 2 _ (u .1) in
+      let b = cond-none (not (isShape s n v)) 8 _ (a .1) in
+      let c = cond-none (ltb (length list) n) 11 none (b .1) in
+      let z = size-facts s (not-false (isSize s) (a .0)) in
+      let right : isShape s n v ≡ true = not-false (isShape s n v) (b .0) in
+      let f = shape-facts s n v right in
+      let y = count-le s n v right in
+      let o = ltb-false (length list) n (c .0) in
+      (u .0, record { blocks = z .0; most = z .1; some-sector = f .0; count = y; local-size = f .1 local; tag-size = f .1 tag; remote-size = f .1 remote; list-size = o })
+
+  pub survey-passes : firstOf rules ≡ none → {x : Report × List ℕ} → surveyed (verdictAt (mirror k) s v) n list ≡ x → surveyOutcome v k s n list ≡ x
+  unfolding surveyOutcome
+  survey-passes e d = ap (λ (o : Option ℕ). settled o (surveyed (verdictAt (mirror k) s v) n list) list) e ∙ d
+
+  pub survey-refused : {m : ℕ} → firstOf rules ≡ some m → surveyOutcome v k s n list ≡ (refused m, list)
+  unfolding surveyOutcome
+  survey-refused e = ap (λ (o : Option ℕ). settled o (surveyed (verdictAt (mirror k) s v) n list) list) e
