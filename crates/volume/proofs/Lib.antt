@@ -15,3 +15,4 @@ pub mod Keyed
 pub mod Public
 pub mod Tallies
 pub mod Surveying
+pub mod SurveyFacts

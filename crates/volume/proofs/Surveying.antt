@@ -6,10 +6,10 @@ use mathlib.Core.Option.{Option, none, some}
 use Prim.Native.Nat.{ℕ, zero, suc, _+_, _*_, _-_, _/_, _<_, _≤_}
 use native.Mathlib.Numerals.{add-one}
 use native.Mathlib.Omega.{arith}
-use lib.Dec.{ltb}
+use lib.Dec.{eqb, ltb}
 use lib.ListN.{length, drop, set, length-append, length-drop, length-set}
 use lib.Seq.{drop-cons, set-at}
-use borrow.Author.Tests.{not-false, ltb-false}
+use borrow.Author.Tests.{not-false, ltb-false, eq-eqb, ne-eqb}
 use Rattle.mode.specs.declared.Context.{Context}
 use Rattle.mode.specs.declared.Prepared.{Prepared}
 use Rattle.mode.specs.Prepared.{PreparedFor, Ready}
@@ -19,10 +19,15 @@ use Rattle.block.specs.Value.{value}
 use Rattle.block.specs.Bytes.{part}
 use Rattle.sector.specs.declared.Judged.{Judged}
 use Rattle.sector.specs.declared.Judged.the-variants as J
-use Rattle.sector.specs.Answers.{Rule, firstOf, judgedNumber}
+use Rattle.sector.specs.declared.Place as D
+use Rattle.sector.specs.declared.Place.the-variants.{Local, Tag, Remote}
+use Rattle.sector.specs.declared.Refusal.{Refusal}
+use Rattle.sector.specs.declared.Refusal.the-variants.{KeyLength, SectorSize, OtherLength, UnknownSide, NoneFits, Lost, Clashing, VolumeShape, SectorNumber, StageOrder, ListLength}
+use Rattle.sector.specs.Answers.{Rule, firstOf, doubtNumber, placeNumber, refusalNumber, judgedNumber}
 use Rattle.sector.specs.Calls.{key, triple, keyRules, verdictOutcome}
 use Rattle.sector.specs.Judging.{schemeOf, judgedBy}
 use Rattle.sector.specs.Verdict.{Verdict, whole, doubtful, lost, clashing, fits, fitsTwo, candidate, grade, judge}
+use Rattle.sector.proofs.Checks.{key-size}
 use Rattle.sector.proofs.Prepared.{scheme-is}
 use Rattle.volume.specs.declared.Counts.{Counts}
 use Rattle.volume.specs.Answers.{isWhole, isDoubtful, isClashing, isLost}
@@ -31,7 +36,81 @@ use Rattle.volume.specs.Survey.{tally, listed, health, countsOf, written
 use Rattle.volume.specs.Volume.{shape, isShape, mirror}
 use Rattle.volume.proofs.Public.{part-end, count-le, size-facts}
 use Rattle.volume.proofs.Refusals.{cond-none, append-none, shape-facts}
+use Rattle.volume.proofs.Stages.{refusal-range, place-least}
 use Rattle.volume.proofs.Tallies.{tally-le, length-listed}
+
+-- ---- one sector: what the code's answer tells of the verdict
+
+-- whole, doubtful, clashing or lost
+pub record Kind (w : Verdict) (a b c d : Bool) : Type 0 where
+  pub whole : isWhole w ≡ a
+  pub doubtful : isDoubtful w ≡ b
+  pub clashing : isClashing w ≡ c
+  pub lost : isLost w ≡ d
+
+doubt-least : (d : Place) → 128 < doubtNumber d
+doubt-least local = omega arith
+doubt-least tag = omega arith
+doubt-least remote = omega arith
+
+six-lost : (f : Refusal) → refusalNumber f ≡ 6 → f ≡ Lost
+six-lost KeyLength e = absurd (omega arith)
+six-lost SectorSize e = absurd (omega arith)
+six-lost OtherLength e = absurd (omega arith)
+six-lost UnknownSide e = absurd (omega arith)
+six-lost NoneFits e = absurd (omega arith)
+six-lost Lost e = refl
+six-lost Clashing e = absurd (omega arith)
+six-lost VolumeShape e = absurd (omega arith)
+six-lost SectorNumber e = absurd (omega arith)
+six-lost StageOrder e = absurd (omega arith)
+six-lost ListLength e = absurd (omega arith)
+
+pub tells-whole : {j : Judged} → j ≡ J.Whole → (w : Verdict) → Tells j w → Kind w true false false false
+unfolding isWhole isDoubtful isClashing isLost
+tells-whole z (whole P) e = record { whole = refl; doubtful = refl; clashing = refl; lost = refl }
+tells-whole z (doubtful d P) e = absurd (omega (arith, doubt-least d, ap judgedNumber z))
+tells-whole z lost e = absurd (omega (arith, ap judgedNumber z))
+tells-whole z clashing e = absurd (omega (arith, ap judgedNumber z))
+
+pub tells-doubtful : {j : Judged} {p : D.Place} → j ≡ J.Doubtful p → (w : Verdict) → Tells j w → Kind w false true false false
+unfolding isWhole isDoubtful isClashing isLost
+tells-doubtful {j} {p} z (whole P) e = absurd (omega (arith, place-least p, ap judgedNumber z))
+tells-doubtful z (doubtful d P) e = record { whole = refl; doubtful = refl; clashing = refl; lost = refl }
+tells-doubtful {j} {p} z lost e = absurd (omega (arith, place-least p, ap judgedNumber z))
+tells-doubtful {j} {p} z clashing e = absurd (omega (arith, place-least p, ap judgedNumber z))
+
+-- a refusal of judging: lost if it is 6, else clashing
+pub tells-refused : {j : Judged} {f : Refusal} → j ≡ J.Refused f → (w : Verdict) → Tells j w
+    → Kind w false false (not (eqb (refusalNumber f) 6)) (eqb (refusalNumber f) 6)
+unfolding isWhole isDoubtful isClashing isLost
+tells-refused {j} {f} z (whole P) e = absurd (omega (arith, refusal-range f, ap judgedNumber z))
+tells-refused {j} {f} z (doubtful d P) e = absurd (omega (arith, refusal-range f, doubt-least d, ap judgedNumber z))
+tells-refused {j} {f} z lost e =
+    let y = eq-eqb (refusalNumber f) 6 (ap judgedNumber (sym z) ∙ e) in
+    record { whole = refl; doubtful = refl; clashing = sym (ap not y); lost = sym y }
+tells-refused {j} {f} z clashing e =
+    let y = ne-eqb (refusalNumber f) 6 (λ d. omega (arith, ap judgedNumber z)) in
+    record { whole = refl; doubtful = refl; clashing = sym (ap not y); lost = sym y }
+
+pub tells-lost : {j : Judged} {f : Refusal} → j ≡ J.Refused f → f ≡ Lost → (w : Verdict) → Tells j w → Kind w false false false true
+tells-lost z d w e = tells-refused (z ∙ ap J.Refused d) w e
+
+pub tells-clashing : {j : Judged} {f : Refusal} → j ≡ J.Refused f → (f ≡ Lost → ⊥) → (w : Verdict) → Tells j w → Kind w false false true false
+tells-clashing {j} {f} z d w e =
+    subst (λ (x : Bool). Kind w false false (not x) x) (ne-eqb (refusalNumber f) 6 (λ y. d (six-lost f y))) (tells-refused z w e)
+
+-- the counts with one sector more
+pub counts-one : (w : Verdict) {a b x d : Bool} → Kind w a b x d → (c : Counts) {k l m n : ℕ}
+    → k ≡ addIf a (c .whole) → l ≡ addIf b (c .doubtful) → m ≡ addIf x (c .clashing) → n ≡ addIf d (c .lost)
+    → record { whole = k; doubtful = l; clashing = m; lost = n; health = c .health } ≡ counting w c
+counts-one w z c ek el em en = λ i. record {
+  whole = (ek ∙ ap (λ (y : Bool). addIf y (c .whole)) (sym (z .whole))) i;
+  doubtful = (el ∙ ap (λ (y : Bool). addIf y (c .doubtful)) (sym (z .doubtful))) i;
+  clashing = (em ∙ ap (λ (y : Bool). addIf y (c .clashing)) (sym (z .clashing))) i;
+  lost = (en ∙ ap (λ (y : Bool). addIf y (c .lost)) (sym (z .lost))) i;
+  health = c .health;
+}
 
 -- ---- the loop
 
@@ -80,7 +159,11 @@ module _ (w : ℕ → Verdict) (old : List ℕ) where
 
         go : (b : Bool) → cond b list (set list (length l) i) ≡ cond b l (l ++ i ∷ []) ++ drop (length (cond b l (l ++ i ∷ []))) old
         go true = e
-        go false = ?
+        go false =
+            ap (λ (x : List ℕ). set x (length l) i) (e ∙ ap (λ (x : List ℕ). l ++ x) (drop-cons old (length l) 0 h))
+            ∙ set-at l _ (drop (suc (length l)) old) i (length l) refl
+            ∙ sym (append-assoc l (i ∷ []) (drop (suc (length l)) old))
+            ∙ ap (λ (k : ℕ). (l ++ i ∷ []) ++ drop k old) (sym (length-append l (i ∷ []) ∙ add-one (length l)))
 
     pub surveys-next : {c d : Counts} {list new : List ℕ} (j : Judged) → Surveys w old i c list → i < length old → Tells j (w i)
         → CountsOne j c d → ListsOne j (i - c .whole) i list new → length new ≡ length list → Surveys w old (i + 1) d new
@@ -92,14 +175,20 @@ module _ (w : ℕ → Verdict) (old : List ℕ) where
         (surveys w old (suc i) d new (counts-next (v .counts) (f (w i) e)) (list-next lt (v .entries) x) (z ∙ v .size))
 
   -- the health of them all
-  pub surveys-all : (n : ℕ) {c : Counts} {list : List ℕ} → Surveys w old n c list
+  pub surveys-all : (n i : ℕ) → i ≤ n → n ≤ i → {c : Counts} {list : List ℕ} → Surveys w old i c list
       → surveyed w n old ≡ (counted (record { whole = c .whole; doubtful = c .doubtful; clashing = c .clashing; lost = c .lost; health = c .whole * 1000 / n }), list)
   unfolding health
-  surveys-all n {c} {list} v =
+  surveys-all n i le ge {c} {list} v =
+      let e : i ≡ n = omega arith in
+      let z : Surveys w old n c list = subst (λ (k : ℕ). Surveys w old k c list) e v in
       ap₂ (λ (x : Counts) (l : List ℕ). (counted (record { whole = x .whole; doubtful = x .doubtful; clashing = x .clashing; lost = x .lost; health = x .whole * 1000 / n }), l))
-      (sym (v .counts)) (sym (v .entries))
+      (sym (z .counts)) (sym (z .entries))
 
 -- ---- the prepared key
+
+-- the context of another sector
+pub ready-other : {t w p : List ℕ} {m o : Context} → Ready t w p m → value (o .alpha) ≡ value (m .alpha) → value (o .beta) ≡ value (m .beta) → Ready t w p o
+ready-other z a b = record { table = z .table; rounds = z .rounds; powers = z .powers; alpha = a ∙ z .alpha; beta = b ∙ z .beta }
 
 pub verdict-by : (w p : List ℕ) (m : Context) (s i : ℕ) (l g r out new : List ℕ) (j : Judged) → value (m .tweak) ≡ tweak i
     → judgedBy w p m (part s i l) (part 16 i g) (part s i r) out ≡ (judgedNumber j, new) → Tells j (verdictBy (schemeOf w p) s l g r i)
@@ -131,7 +220,7 @@ module _ (v : Triple) (k : Key) (s n : ℕ) (list : List ℕ) where
   rules = surveyRules k s n (isShape s n v) (length list)
 
   -- what passing them shows
-  pub room : firstOf rules ≡ none → (firstOf (keyRules k) ≡ none) × Room s n (length (v .local)) (length (v .tag)) (length (v .remote)) (length list)
+  pub room : firstOf rules ≡ none → (length (k .bytes) ≡ 32) × Room s n (length (v .local)) (length (v .tag)) (length (v .remote)) (length list)
   room e =
       let u = append-none (keyRules k) (listRules s n (isShape s n v) (length list)) e in
       let a = cond-none (not (isSize s)) 2 _ (u .1) in
@@ -142,7 +231,7 @@ module _ (v : Triple) (k : Key) (s n : ℕ) (list : List ℕ) where
       let f = shape-facts s n v right in
       let y = count-le s n v right in
       let o = ltb-false (length list) n (c .0) in
-      (u .0, record { blocks = z .0; most = z .1; some-sector = f .0; count = y; local-size = f .1 local; tag-size = f .1 tag; remote-size = f .1 remote; list-size = o })
+      (key-size k (u .0), record { blocks = z .0; most = z .1; some-sector = f .0; count = y; local-size = f .1 local; tag-size = f .1 tag; remote-size = f .1 remote; list-size = o })
 
   pub survey-passes : firstOf rules ≡ none → {x : Report × List ℕ} → surveyed (verdictAt (mirror k) s v) n list ≡ x → surveyOutcome v k s n list ≡ x
   unfolding surveyOutcome

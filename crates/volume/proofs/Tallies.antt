@@ -5,7 +5,7 @@ use mathlib.Core.Bool.{Bool, true, false, cond}
 use mathlib.Core.List.{List, [], _∷_, _++_, List·Memᴰ, List·Memᴰ·head, List·Memᴰ·not-nil, List·Memᴰ·append-cases, List·Memᴰ·eq-of-singleton, Memᴰ·append-left, Memᴰ·append-right}
 use Prim.Native.Nat.{ℕ, zero, suc, _+_, _*_, _/_, _<_, _≤_}
 use native.Mathlib.Decide.{ℕ-discrete, decLt}
-use native.Mathlib.Nat.{div-le-of-le-mul, le-div-iff-mul-le, mul-div-cancel-left, mul-comm}
+use native.Mathlib.Nat.{div-le-of-le-mul, le-div-iff-mul-le, mul-div-cancel-left, mul-le-mul-right, le-of-eq}
 use native.Mathlib.Omega.{arith}
 use lib.ListN.{length, getD, length-append, List·getD-append}
 use lib.Seq.{getD-at}
@@ -52,10 +52,7 @@ tally-full is w (suc n) e i h = go (is (w n)) refl e (tally-full is w n) (ℕ-di
   where
     go : (b : Bool) → is (w n) ≡ b → suc n ≤ addIf b (tally is w n) → (n ≤ tally is w n → (j : ℕ) → j < n → is (w j) ≡ true) → Dec (i ≡ n) → is (w i) ≡ true
     go true d k r (yes z) = ap (λ (j : ℕ). is (w j)) z ∙ d
-    go true d k r (no z) = r (omega arith) i (omega (arith, ne))
-      where
-        ne : (i < n) ⊎ (n ≤ i)
-        ne = ?
+    go true d k r (no z) = r (omega arith) i (omega arith)
     go false d k r z = let m : tally is w n ≤ n = tally-le is w n in absurd (omega arith)
 
 -- two tests that no number passes both
@@ -107,9 +104,9 @@ listed-in w (suc n) i h e = go (isWhole (w n)) refl (ℕ-discrete i n) (λ lt. l
   where
     go : (b : Bool) → isWhole (w n) ≡ b → Dec (i ≡ n) → (i < n → List·Memᴰ i (listed w n)) → List·Memᴰ i (cond b (listed w n) (listed w n ++ n ∷ []))
     go true d (yes z) r = clash d (ap (λ (j : ℕ). isWhole (w j)) (sym z) ∙ e)
-    go true d (no z) r = r ?
+    go true d (no z) r = r (omega arith)
     go false d (yes z) r = Memᴰ·append-right (listed w n) (List·Memᴰ·head z)
-    go false d (no z) r = Memᴰ·append-left (n ∷ []) (r ?)
+    go false d (no z) r = Memᴰ·append-left (n ∷ []) (r (omega arith))
 
 pub in-list : (w : ℕ → Verdict) (n i : ℕ) → List·Memᴰ i (listed w n) ↔ ((i < n) × (isWhole (w i) ≡ false))
 in-list w n i = (in-listed w n i, λ x. listed-in w n i (x .0) (x .1))
@@ -123,7 +120,7 @@ snoc-at l x j h = go (decLt j (length l))
     go (yes k) = inl (k, List·getD-append l (x ∷ []) 0 j k)
     go (no k) =
         let m : j < length l + 1 = simp length-append at h in
-        let e : length l ≡ j = ? in
+        let e : length l ≡ j = omega arith in
         inr (e, getD-at l x [] 0 j e)
 
 listed-below : (w : ℕ → Verdict) (n j : ℕ) → j < length (listed w n) → getD (listed w n) j 0 < n
@@ -148,7 +145,7 @@ rises-snoc l x up below i j h k = ⊎-elim inside behind (snoc-at l x j k)
 
 pub list-rises : (w : ℕ → Verdict) (n : ℕ) → Rises (listed w n)
 unfolding listed
-list-rises w zero i j h k = absurd (omega arith)
+list-rises w zero = λ i j h k. absurd (omega arith)
 list-rises w (suc n) = go (isWhole (w n)) (list-rises w n)
   where
     go : (b : Bool) → Rises (listed w n) → Rises (cond b (listed w n) (listed w n ++ n ∷ []))
@@ -159,8 +156,13 @@ list-rises w (suc n) = go (isWhole (w n)) (list-rises w n)
 
 pub health-most : (w : ℕ → Verdict) (n : ℕ) → 1 ≤ n → health (tally isWhole w n) n ≤ 1000
 unfolding health
-health-most w n h = div-le-of-le-mul n (let z = tally-le isWhole w n in ?)
+health-most w n h = div-le-of-le-mul n (mul-le-mul-right 1000 (tally-le isWhole w n))
 
 pub health-full : (w : ℕ → Verdict) (n : ℕ) → 1 ≤ n → (health (tally isWhole w n) n ≡ 1000) ↔ ((i : ℕ) → i < n → isWhole (w i) ≡ true)
 unfolding health
-health-full w n h = (λ e. tally-full isWhole w n ?, λ a. ap (λ (k : ℕ). k * 1000 / n) (tally-all isWhole w n a) ∙ mul-div-cancel-left 1000 h)
+health-full w n h = (λ e. tally-full isWhole w n (from e), λ a. ap (λ (k : ℕ). k * 1000 / n) (tally-all isWhole w n a) ∙ mul-div-cancel-left 1000 h)
+  where
+    from : tally isWhole w n * 1000 / n ≡ 1000 → n ≤ tally isWhole w n
+    from e =
+        let k : 1000 * n ≤ tally isWhole w n * 1000 = le-div-iff-mul-le h .0 (le-of-eq (sym e)) in
+        omega arith

@@ -1,3 +1,12 @@
+use mathlib.Core.Path.{refl, subst}
+use mathlib.Core.List.{List, [], _∷_}
+use Prim.Native.Nat.{ℕ}
+use denote.Enum.Declared.{tagOf}
+use types.Run.{OneOf, miss}
+use Rattle.sector.specs.declared.Refusal.{Refusal}
+use Rattle.sector.proofs.Refusal.{the-type}
+use native.Mathlib.Numerals.{add-one}
+use Rattle.volume.proofs.Surveying.{tells-whole, tells-doubtful, tells-lost, tells-clashing, counts-one}
 use borrow.Author.Needs.{needs}
 use Rattle.volume.proofs.count_verdict.Statement.{statement}
 use Rattle.volume.proofs.count_verdict.Tie as tie
@@ -38,19 +47,27 @@ add-next-4 c = search needs
 
 -- src/lib.rt:755:1
 returns : tie.Need-returns
-returns c = ?
+returns c = let a = c .before .before .before .args in λ w e. counts-one w (tells-whole (c .before .enum-told .given .1) w e) (a .c) (add-one _) refl refl refl
 
 -- src/lib.rt:755:1
 returns-2 : tie.Need-returns-2
-returns-2 c = ?
+returns-2 c = let a = c .before .before .before .args in λ w e. counts-one w (tells-doubtful (c .before .enum-told2 .given .1) w e) (a .c) refl (add-one _) refl refl
 
 -- src/lib.rt:755:1
 returns-3 : tie.Need-returns-3
-returns-3 c = ?
+returns-3 c =
+    let a = c .before .before .before .before .before .before .args in
+    λ w e. counts-one w (tells-lost (c .before .before .before .before .judged .given .1) (c .before .enum-told3 .given .1) w e) (a .c) refl refl refl (add-one _)
 
--- src/lib.rt:755:1
+-- the enum's tags but that of lost
+others : List ℕ
+others = 0 ∷ 1 ∷ 2 ∷ 3 ∷ 4 ∷ 6 ∷ 7 ∷ 8 ∷ 9 ∷ 10 ∷ []
+
 returns-4 : tie.Need-returns-4
-returns-4 c = ?
+unfolding others
+returns-4 c =
+    let a = c .before .before .before .before .before .args in
+    λ w e. counts-one w (tells-clashing (c .before .before .before .judged .given .1) (λ d. miss others 5 tt (subst (λ (f : Refusal). OneOf others (tagOf the-type f)) d (c .before .match2 .keys2))) w e) (a .c) refl refl (add-one _) refl
 
 pub count-verdict-spec : {M : Type 1} → statement M
 count-verdict-spec =

@@ -1,3 +1,4 @@
+use Rattle.volume.proofs.Surveying.{ready-other, verdict-by}
 use borrow.Author.Needs.{needs}
 use Rattle.volume.proofs.judge_sector.Statement.{statement}
 use Rattle.volume.proofs.judge_sector.Tie as tie
@@ -12,7 +13,10 @@ context-requires c κs = search needs
 
 -- src/lib.rt:753:5
 judge-part-requires : tie.Need-judge-part-requires
-judge-part-requires c κs = ?
+judge-part-requires c κs =
+    let z = c .before .before .before .before .before .before .before .before .before .before .before .pre in
+    let e = c .before .before .before .context .ensures in
+    (ready-other (z .0) (e .0) (e .1), z .1, z .2, z .3, z .4)
 
 -- src/lib.rt:735:1
 same-length : tie.Need-same-length
@@ -28,7 +32,9 @@ same-length-3 c = search needs
 
 -- src/lib.rt:735:1
 returns : tie.Need-returns
-returns c = ?
+returns c =
+    let a = c .before .before .before .before .before .before .before .before .before .before .before .before .before .before .before .before .before .before .args in
+    verdict-by (a .w .now) (a .powers .now) (c .before .before .before .before .before .before .before .before .before .before .context .result) (a .s) (a .i) (a .local .now) (a .tags .now) (a .remote .now) (a .plain .now) _ (c .before .before .before .before .before .before .judge-part .result) (c .before .before .before .before .before .before .before .before .before .before .context .ensures .2) (c .before .before .before .before .before .before .judge-part .ensures)
 
 pub judge-sector-spec : {M : Type 1} → statement M
 judge-sector-spec =

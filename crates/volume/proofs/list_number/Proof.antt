@@ -1,3 +1,7 @@
+use mathlib.Core.Path.{sym, ap}
+use mathlib.Core.Bool.{Bool, cond}
+use lib.ListN.{set}
+use Rattle.volume.proofs.Surveying.{tells-whole, tells-doubtful, tells-refused}
 use borrow.Author.Needs.{needs}
 use Rattle.volume.proofs.list_number.Statement.{statement}
 use Rattle.volume.proofs.list_number.Tie as tie
@@ -41,7 +45,9 @@ slice-write-list-2 c = search needs
 
 -- src/lib.rt:783:1
 returns : tie.Need-returns
-returns c = ?
+returns c =
+    let a = c .before .before .args in
+    λ w e. ap (λ (x : Bool). cond x (a .list .now) (set (a .list .now) (a .at) (a .i))) (sym (tells-whole (c .enum-told .given .1) w e .whole))
 
 -- src/lib.rt:783:1
 same-length : tie.Need-same-length
@@ -49,7 +55,9 @@ same-length c = search needs
 
 -- src/lib.rt:783:1
 returns-2 : tie.Need-returns-2
-returns-2 c = ?
+returns-2 c =
+    let a = c .before .before .args in
+    λ w e. ap (λ (x : Bool). cond x (a .list .now) (set (a .list .now) (a .at) (a .i))) (sym (tells-doubtful (c .enum-told2 .given .1) w e .whole))
 
 -- src/lib.rt:783:1
 same-length-2 : tie.Need-same-length-2
@@ -57,7 +65,9 @@ same-length-2 c = search needs
 
 -- src/lib.rt:783:1
 returns-3 : tie.Need-returns-3
-returns-3 c = ?
+returns-3 c =
+    let a = c .before .before .args in
+    λ w e. ap (λ (x : Bool). cond x (a .list .now) (set (a .list .now) (a .at) (a .i))) (sym (tells-refused (c .enum-told3 .given .1) w e .whole))
 
 pub list-number-spec : {M : Type 1} → statement M
 list-number-spec =

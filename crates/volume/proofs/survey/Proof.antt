@@ -1,3 +1,8 @@
+use mathlib.Core.Path.{ap, _∙_}
+use Rattle.sector.specs.Answers.{doneOption}
+use Rattle.sector.specs.Calls.{key, triple}
+use Rattle.volume.specs.Volume.{isShape}
+use Rattle.volume.proofs.Surveying.{room, survey-passes, survey-refused}
 use borrow.Author.Needs.{needs}
 use Rattle.volume.proofs.survey.Statement.{statement}
 use Rattle.volume.proofs.survey.Tie as tie
@@ -16,7 +21,10 @@ enum-told c = search needs
 
 -- src/lib.rt:884:41
 survey-checked-requires : tie.Need-survey-checked-requires
-survey-checked-requires c κs = ?
+unfolding isShape
+survey-checked-requires c κs =
+    let a = c .before .before .before .before .before .before .before .before .before .args in
+    room (triple (a .local .now) (a .tags .now) (a .remote .now)) (key (a .key .now)) (a .s) (a .n) (a .list .now) (c .before .before .before .check-survey .ensures ∙ ap doneOption (c .before .enum-told .given .1))
 
 -- src/lib.rt:885:23
 enum-known-checked : tie.Need-enum-known-checked
@@ -28,11 +36,17 @@ same-length c = search needs
 
 -- src/lib.rt:871:1
 returns : tie.Need-returns
-returns c = ?
+unfolding isShape
+returns c =
+    let a = c .before .before .before .before .before .before .before .before .before .before .before .before .args in
+    survey-passes (triple (a .local .now) (a .tags .now) (a .remote .now)) (key (a .key .now)) (a .s) (a .n) (a .list .now) (c .before .before .before .before .before .before .check-survey .ensures ∙ ap doneOption (c .before .before .before .before .enum-told .given .1)) (c .before .before .survey-checked .ensures)
 
 -- src/lib.rt:871:1
 returns-2 : tie.Need-returns-2
-returns-2 c = ?
+unfolding isShape
+returns-2 c =
+    let a = c .before .before .before .before .before .before .before .before .before .args in
+    survey-refused (triple (a .local .now) (a .tags .now) (a .remote .now)) (key (a .key .now)) (a .s) (a .n) (a .list .now) (c .before .before .before .check-survey .ensures ∙ ap doneOption (c .before .checked .given .1))
 
 pub survey-spec : {M : Type 1} → statement M
 survey-spec =

@@ -1,3 +1,8 @@
+use mathlib.Core.Path.{sym, _∙_}
+use native.Mathlib.Omega.{arith}
+use lib.ListN.{length-take}
+use Rattle.sector.proofs.Prepared.{ready-of}
+use Rattle.volume.proofs.Surveying.{survey-keyed}
 use borrow.Author.Needs.{needs}
 use Rattle.volume.proofs.survey_checked.Statement.{statement}
 use Rattle.volume.proofs.survey_checked.Tie as tie
@@ -26,31 +31,34 @@ slice-aggregate-survey-in c = search needs
 
 -- src/lib.rt:864:9
 array-borrow-prefix-plain : tie.Need-array-borrow-prefix-plain
-array-borrow-prefix-plain c = ?
+array-borrow-prefix-plain c = let z = c .before .before .before .before .before .before .before .before .before .before .before .before .before .before .before .pre .1 in omega arith
 
 -- src/lib.rt:864:9
 slice-aggregate-survey-in-2 : tie.Need-slice-aggregate-survey-in-2
-slice-aggregate-survey-in-2 c = ?
+slice-aggregate-survey-in-2 c = let z = c .before .before .before .before .before .before .before .before .before .before .before .before .before .before .before .before .pre .1 in simp length-take (omega arith)
 
 -- src/lib.rt:865:9
 array-borrow-prefix-sum : tie.Need-array-borrow-prefix-sum
-array-borrow-prefix-sum c = ?
+array-borrow-prefix-sum c = let z = c .before .before .before .before .before .before .before .before .before .before .before .before .before .before .before .before .pre .1 in omega arith
 
 -- src/lib.rt:865:9
 slice-aggregate-survey-in-3 : tie.Need-slice-aggregate-survey-in-3
-slice-aggregate-survey-in-3 c = ?
+slice-aggregate-survey-in-3 c = let z = c .before .before .before .before .before .before .before .before .before .before .before .before .before .before .before .before .before .pre .1 in simp length-take (omega arith)
 
 -- src/lib.rt:866:9
 array-borrow-prefix-work : tie.Need-array-borrow-prefix-work
-array-borrow-prefix-work c = ?
+array-borrow-prefix-work c = let z = c .before .before .before .before .before .before .before .before .before .before .before .before .before .before .before .before .before .pre .1 in omega arith
 
 -- src/lib.rt:866:9
 slice-aggregate-survey-in-4 : tie.Need-slice-aggregate-survey-in-4
-slice-aggregate-survey-in-4 c = ?
+slice-aggregate-survey-in-4 c = let z = c .before .before .before .before .before .before .before .before .before .before .before .before .before .before .before .before .before .before .pre .1 in simp length-take (omega arith)
 
 -- src/lib.rt:853:5
 survey-in-requires : tie.Need-survey-in-requires
-survey-in-requires c κs = ?
+survey-in-requires c κs =
+    let a = c .before .before .before .before .before .before .before .before .before .before .before .before .before .before .before .before .before .before .args in
+    let z = c .before .before .before .before .before .before .before .before .before .before .before .before .before .before .before .before .before .before .pre .1 in
+    (ready-of (a .key .now) _ (c .before .before .before .before .before .before .before .before .before .before .prepare .ensures) _ 0 (c .before .before .before .before .before .before .before .context .ensures) (c .before .before .before .before .before .before .before .before .before .before .before .before .table .ensures), z, simp length-take (omega arith), simp length-take (omega arith), simp length-take (omega arith))
 
 -- src/lib.rt:833:1
 same-length : tie.Need-same-length
@@ -58,7 +66,9 @@ same-length c = search needs
 
 -- src/lib.rt:833:1
 returns : tie.Need-returns
-returns c = ?
+returns c =
+    let a = c .before .before .before .before .before .before .before .before .before .before .before .before .before .before .before .before .before .before .before .before .before .before .before .before .args in
+    sym (survey-keyed (a .key .now) _ (c .before .before .before .before .before .before .before .before .before .before .before .before .before .before .before .before .prepare .ensures) (a .s) (a .n) (a .local .now) (a .tags .now) (a .remote .now) (a .list .now)) ∙ c .before .before .before .before .before .survey-in .ensures
 
 pub survey-checked-spec : {M : Type 1} → statement M
 survey-checked-spec =
