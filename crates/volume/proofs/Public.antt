@@ -38,7 +38,7 @@ size-facts s e =
     let u = and-right (leb 16 s) (leb s 4096 && eqb (s % 16) 0) e in
     (eqb-true (s % 16) 0 (and-right (leb s 4096) (eqb (s % 16) 0) u), leb-true s 4096 (and-left (leb s 4096) (eqb (s % 16) 0) u))
 
-key-size : (k : Key) → isKey k ≡ true → length (k .bytes) ≡ 32
+pub key-size : (k : Key) → isKey k ≡ true → length (k .bytes) ≡ 32
 unfolding isKey
 key-size k e = eqb-true (length (k .bytes)) 32 e
 

@@ -1,26 +1,24 @@
 -- What is proved of the survey. Assumes nothing.
-use mathlib.Core.Path.{_≡_, refl, sym, _∙_}
-use mathlib.Core.Bool.{Bool, true, false, not}
+use mathlib.Core.Path.{_≡_, refl, _∙_}
+use mathlib.Core.Bool.{Bool, true, false}
 use mathlib.Core.List.{List}
 use mathlib.Core.Option.{none, some}
 use Prim.Native.Nat.{ℕ, _+_, _<_, _≤_}
 use native.Mathlib.Omega.{arith}
-use lib.ListN.{length}
-use borrow.Author.Tests.{not-false}
+use borrow.Author.Tests.{eq-eqb}
 use Rattle.block.proofs.Lists.{false-true}
-use Rattle.mode.specs.Scheme.{isKey, isSize}
 use Rattle.mode.specs.Sealing.{Triple}
 use Rattle.sector.specs.Answers.{firstOf}
-use Rattle.sector.specs.Calls.{keyRules}
 use Rattle.sector.specs.Verdict.{Verdict, whole, doubtful, lost, clashing}
 use Rattle.volume.specs.Answers.{Answer, refused, reply, isWhole, isDoubtful, isClashing, isLost, unjudged}
 use Rattle.volume.specs.History.{Proper, Found, Promise, Promised, AnyBytes}
 use Rattle.volume.specs.Lent.{args}
 use Rattle.volume.specs.Machine.{Event, Held, gone, kept, start, Volume, AllAllowed, run, hold}
-use Rattle.volume.specs.Survey.{tally, listRules, isKept, Accepted, verdicts, SurveyFacts}
-use Rattle.volume.specs.Volume.{Args, read, isShape, mirror}
+use Rattle.volume.specs.Survey.{tally, isKept, Accepted, verdicts, SurveyFacts}
+use Rattle.volume.specs.Volume.{Args, read, lengthRules, mirror}
 use Rattle.volume.proofs.Demand3.{demand-3}
-use Rattle.volume.proofs.Refusals.{cond-none, append-none, only-rule, passes-early, answer-late}
+use Rattle.volume.proofs.Refusals.{passes-early, answer-late}
+use Rattle.volume.proofs.Surveying.{tests, survey-passes}
 use Rattle.volume.proofs.Tallies.{all-counted, apart, in-list, list-rises, health-most, health-full}
 
 -- what is promised of a sector that is kept
@@ -38,13 +36,24 @@ lost-6 (doubtful d P) r e = false-true e
 lost-6 lost r e = refl
 lost-6 clashing r e = false-true e
 
+-- an output of s bytes is not refused
+same-length : (s : ℕ) → firstOf (lengthRules s s) ≡ none
+same-length s = simp (eq-eqb s s refl)
+
 module _ (vol : Volume) (v : Triple) (room : ℕ) (accepted : Accepted vol v room) (i : ℕ) (lt : i < vol .count) where
   abbrev a : Args
   a = args (vol .key) (vol .size) (vol .count) i
 
   -- where a survey is not refused, a read of each sector is proper
-  proper : Proper mirror vol v i a (read (vol .size))
-  proper = ?
+  proper : Proper vol v i a (read (vol .size))
+  proper =
+      let t = tests v (vol .key) (vol .size) (vol .count) room accepted in
+      record {
+        takes = record { key = refl; size = refl; count = refl };
+        names = refl;
+        lent = tt;
+        passes = passes-early v a (read (vol .size)) (record { common = record { key = t .0; size = t .1; shape = t .2; number = lt }; lengths = same-length (vol .size) });
+      }
 
   found-not-lost : Found mirror vol v i → isLost (verdicts vol v i) ≡ false
   found-not-lost f = go (isLost (verdicts vol v i)) refl
@@ -69,6 +78,7 @@ module _ (vol : Volume) (v : Triple) (bytes : AnyBytes v) (es : List Event) (all
 
 pub survey-facts : SurveyFacts
 survey-facts = record {
+  answers = λ vol v list e. survey-passes v (vol .key) (vol .size) (vol .count) list e refl;
   all-counted = all-counted;
   in-list = in-list;
   list-rises = list-rises;

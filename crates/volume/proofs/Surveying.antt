@@ -3,39 +3,37 @@ use mathlib.Core.Path.{_≡_, refl, sym, ap, ap₂, subst, _∙_}
 use mathlib.Core.Bool.{Bool, true, false, not, cond}
 use mathlib.Core.List.{List, [], _∷_, _++_, append-assoc}
 use mathlib.Core.Option.{Option, none, some}
-use Prim.Native.Nat.{ℕ, zero, suc, _+_, _*_, _-_, _/_, _<_, _≤_}
+use Prim.Native.Nat.{ℕ, suc, _+_, _*_, _-_, _/_, _<_, _≤_}
 use native.Mathlib.Numerals.{add-one}
 use native.Mathlib.Omega.{arith}
-use lib.Dec.{eqb, ltb}
-use lib.ListN.{length, drop, set, length-append, length-drop, length-set}
+use lib.Dec.{eqb}
+use lib.ListN.{length, drop, set, length-append}
 use lib.Seq.{drop-cons, set-at}
 use borrow.Author.Tests.{not-false, ltb-false, eq-eqb, ne-eqb}
 use Rattle.mode.specs.declared.Context.{Context}
 use Rattle.mode.specs.declared.Prepared.{Prepared}
 use Rattle.mode.specs.Prepared.{PreparedFor, Ready}
-use Rattle.mode.specs.Scheme.{Place, local, tag, remote, on, isKey, isSize, Scheme, scheme}
+use Rattle.mode.specs.Scheme.{Place, local, tag, remote, isKey, isSize, Scheme}
 use Rattle.mode.specs.Sealing.{Triple, Key, tweak}
 use Rattle.block.specs.Value.{value}
 use Rattle.block.specs.Bytes.{part}
 use Rattle.sector.specs.declared.Judged.{Judged}
 use Rattle.sector.specs.declared.Judged.the-variants as J
 use Rattle.sector.specs.declared.Place as D
-use Rattle.sector.specs.declared.Place.the-variants.{Local, Tag, Remote}
 use Rattle.sector.specs.declared.Refusal.{Refusal}
 use Rattle.sector.specs.declared.Refusal.the-variants.{KeyLength, SectorSize, OtherLength, UnknownSide, NoneFits, Lost, Clashing, VolumeShape, SectorNumber, StageOrder, ListLength}
-use Rattle.sector.specs.Answers.{Rule, firstOf, doubtNumber, placeNumber, refusalNumber, judgedNumber}
-use Rattle.sector.specs.Calls.{key, triple, keyRules, verdictOutcome}
+use Rattle.sector.specs.Answers.{Rule, firstOf, doubtNumber, refusalNumber, judgedNumber}
+use Rattle.sector.specs.Calls.{key, triple, verdictOutcome}
 use Rattle.sector.specs.Judging.{schemeOf, judgedBy}
 use Rattle.sector.specs.Verdict.{Verdict, whole, doubtful, lost, clashing, fits, fitsTwo, candidate, grade, judge}
-use Rattle.sector.proofs.Checks.{key-size}
 use Rattle.sector.proofs.Prepared.{scheme-is}
 use Rattle.volume.specs.declared.Counts.{Counts}
 use Rattle.volume.specs.Answers.{isWhole, isDoubtful, isClashing, isLost}
 use Rattle.volume.specs.Lent.{Within, placesOf, verdictNumber}
-use Rattle.volume.specs.Survey.{tally, listed, health, countsOf, written, Report, counted, refused, surveyRules, listRules, verdictAt, surveyed, settled, surveyOutcome, Room, verdictBy, Tells, addIf, counting, CountsOne, ListsOne}
-use Rattle.volume.specs.Volume.{shape, isShape, mirror}
-use Rattle.volume.proofs.Public.{part-end, count-le, size-facts}
-use Rattle.volume.proofs.Refusals.{cond-none, append-none, shape-facts}
+use Rattle.volume.specs.Survey.{tally, listed, health, countsOf, written, Report, counted, refused, surveyRules, verdictAt, surveyed, settled, surveyOutcome, Room, verdictBy, Tells, addIf, counting, CountsOne, ListsOne}
+use Rattle.volume.specs.Volume.{isShape, mirror}
+use Rattle.volume.proofs.Public.{part-end, count-le, size-facts, key-size}
+use Rattle.volume.proofs.Refusals.{none-holds, shape-facts}
 use Rattle.volume.proofs.Stages.{refusal-range, place-least}
 use Rattle.volume.proofs.Tallies.{tally-le, length-listed}
 
@@ -215,23 +213,23 @@ within-room s n i l g r room z h =
 
 -- ---- the refusals
 
+module _ (v : Triple) (k : Key) (s n room : ℕ) where
+  -- what passing them shows
+  pub tests : firstOf (surveyRules k s n (isShape s n v) room) ≡ none → (isKey k ≡ true) × (isSize s ≡ true) × (isShape s n v ≡ true) × (n ≤ room)
+  tests e =
+      let (a, (b, (c, (d, z)))) = none-holds (surveyRules k s n (isShape s n v) room) e in
+      (not-false (isKey k) a, not-false (isSize s) b, not-false (isShape s n v) c, ltb-false room n d)
+
+  pub has-room : firstOf (surveyRules k s n (isShape s n v) room) ≡ none → (length (k .bytes) ≡ 32) × Room s n (length (v .local)) (length (v .tag)) (length (v .remote)) room
+  has-room e =
+      let t = tests e in
+      let z = size-facts s (t .1) in
+      let f = shape-facts s n v (t .2) in
+      (key-size k (t .0), record { blocks = z .0; most = z .1; some-sector = f .0; count = count-le s n v (t .2); local-size = f .1 local; tag-size = f .1 tag; remote-size = f .1 remote; list-size = t .3 })
+
 module _ (v : Triple) (k : Key) (s n : ℕ) (list : List ℕ) where
   abbrev rules : List Rule
   rules = surveyRules k s n (isShape s n v) (length list)
-
-  -- what passing them shows
-  pub room : firstOf rules ≡ none → (length (k .bytes) ≡ 32) × Room s n (length (v .local)) (length (v .tag)) (length (v .remote)) (length list)
-  room e =
-      let u = append-none (keyRules k) (listRules s n (isShape s n v) (length list)) e in
-      let a = cond-none (not (isSize s)) 2 _ (u .1) in
-      let b = cond-none (not (isShape s n v)) 8 _ (a .1) in
-      let c = cond-none (ltb (length list) n) 11 none (b .1) in
-      let z = size-facts s (not-false (isSize s) (a .0)) in
-      let right : isShape s n v ≡ true = not-false (isShape s n v) (b .0) in
-      let f = shape-facts s n v right in
-      let y = count-le s n v right in
-      let o = ltb-false (length list) n (c .0) in
-      (key-size k (u .0), record { blocks = z .0; most = z .1; some-sector = f .0; count = y; local-size = f .1 local; tag-size = f .1 tag; remote-size = f .1 remote; list-size = o })
 
   pub survey-passes : firstOf rules ≡ none → {x : Report × List ℕ} → surveyed (verdictAt (mirror k) s v) n list ≡ x → surveyOutcome v k s n list ≡ x
   unfolding surveyOutcome

@@ -11,7 +11,7 @@ use lib.ListN.{length, getD, drop, set}
 use Rattle.mode.specs.Sealing.{Triple, Key, tweak}
 use Rattle.mode.specs.Scheme.{isSize, Scheme}
 use Rattle.sector.specs.Answers.{Rule, rule, firstOf, judgedNumber, refusalNumber}
-use Rattle.sector.specs.Calls.{keyRules, triple}
+use Rattle.sector.specs.Calls.{keyRules}
 use Rattle.sector.specs.declared.Judged.{Judged}
 use Rattle.sector.specs.Verdict.{Verdict, judge}
 use Rattle.volume.specs.declared.Counts.{Counts}
@@ -149,6 +149,9 @@ abbrev pub verdicts : Volume → Triple → ℕ → Verdict
 verdicts vol v = verdictAt (mirror (vol .key)) (vol .size) v
 
 pub record SurveyFacts : Type 0 where
+  -- a survey that is not refused answers with the counts of its verdicts
+  pub answers : (vol : Volume) (v : Triple) (list : List ℕ) → Accepted vol v (length list)
+      → surveyOutcome v (vol .key) (vol .size) (vol .count) list ≡ surveyed (verdicts vol v) (vol .count) list
   -- the four counts add up to n
   pub all-counted : (w : ℕ → Verdict) (n : ℕ) → tally isWhole w n + tally isDoubtful w n + tally isClashing w n + tally isLost w n ≡ n
   -- a number is listed exactly if it is below n and its sector is not whole; and it is listed once

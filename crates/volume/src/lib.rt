@@ -748,7 +748,20 @@ fn judge_sector(
     ensures { λ r. ⌜ Tells r (verdictBy (schemeOf (now (w .entry)) (now (powers .entry))) s (now (local .entry)) (now (tags .entry)) (now (remote .entry)) i) ⌝ }
 {
     let own = sector::context(m.alpha, m.beta, i as u64);
-    judge_part(t, w, powers, own, s, i, local, tags, remote, plain, sum, work)
+    judge_part(
+        t,
+        w,
+        powers,
+        own,
+        s,
+        i,
+        local,
+        tags,
+        remote,
+        plain,
+        sum,
+        work,
+    )
 }
 
 // One more sector counted. Judging refuses nothing but lost and clashing.

@@ -10,50 +10,37 @@ use Rattle.volume.proofs.Surveying.{tells-whole, tells-doubtful, tells-
 use borrow.Author.Needs.{needs}
 use Rattle.volume.proofs.count_verdict.Statement.{statement}
 use Rattle.volume.proofs.count_verdict.Tie as tie
-use Rattle.volume.proofs.count_verdict.Reads as reads
-use Rattle.volume.proofs.count_verdict.Lts as lts
 
--- src/lib.rt:762:13
 enum-told : tie.Need-enum-told
 enum-told c = search needs
 
--- src/lib.rt:762:13
 add-next : tie.Need-add-next
 add-next c = search needs
 
--- src/lib.rt:766:13
 enum-told-2 : tie.Need-enum-told-2
 enum-told-2 c = search needs
 
--- src/lib.rt:766:13
 add-next-2 : tie.Need-add-next-2
 add-next-2 c = search needs
 
--- src/lib.rt:769:25
 enum-known-judged : tie.Need-enum-known-judged
 enum-known-judged c = search needs
 
--- src/lib.rt:771:17
 enum-told-3 : tie.Need-enum-told-3
 enum-told-3 c = search needs
 
--- src/lib.rt:771:17
 add-next-3 : tie.Need-add-next-3
 add-next-3 c = search needs
 
--- src/lib.rt:775:17
 add-next-4 : tie.Need-add-next-4
 add-next-4 c = search needs
 
--- src/lib.rt:755:1
 returns : tie.Need-returns
 returns c = let a = c .before .before .before .args in λ w e. counts-one w (tells-whole (c .before .enum-told .given .1) w e) (a .c) (add-one _) refl refl refl
 
--- src/lib.rt:755:1
 returns-2 : tie.Need-returns-2
 returns-2 c = let a = c .before .before .before .args in λ w e. counts-one w (tells-doubtful (c .before .enum-told2 .given .1) w e) (a .c) refl (add-one _) refl refl
 
--- src/lib.rt:755:1
 returns-3 : tie.Need-returns-3
 returns-3 c =
     let a = c .before .before .before .before .before .before .args in

@@ -2,35 +2,25 @@ use Rattle.volume.proofs.Surveying.{ready-other, verdict-by}
 use borrow.Author.Needs.{needs}
 use Rattle.volume.proofs.judge_sector.Statement.{statement}
 use Rattle.volume.proofs.judge_sector.Tie as tie
-use Rattle.volume.proofs.judge_sector.Reads as reads
-use Rattle.volume.proofs.judge_sector.Lts as lts
-use Rattle.sector.proofs.context.Reads as context-reads
-use Rattle.volume.proofs.judge_part.Reads as judge-part-reads
 
--- src/lib.rt:752:9
 context-requires : tie.Need-context-requires
 context-requires c κs = search needs
 
--- src/lib.rt:753:5
 judge-part-requires : tie.Need-judge-part-requires
 judge-part-requires c κs =
     let z = c .before .before .before .before .before .before .before .before .before .before .before .pre in
     let e = c .before .before .before .context .ensures in
     (ready-other (z .0) (e .0) (e .1), z .1, z .2, z .3, z .4)
 
--- src/lib.rt:735:1
 same-length : tie.Need-same-length
 same-length c = search needs
 
--- src/lib.rt:735:1
 same-length-2 : tie.Need-same-length-2
 same-length-2 c = search needs
 
--- src/lib.rt:735:1
 same-length-3 : tie.Need-same-length-3
 same-length-3 c = search needs
 
--- src/lib.rt:735:1
 returns : tie.Need-returns
 returns c =
     let a = c .before .before .before .before .before .before .before .before .before .before .before .before .before .before .before .before .before .before .args in

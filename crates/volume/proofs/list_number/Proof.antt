@@ -5,65 +5,50 @@ use Rattle.volume.proofs.Surveying.{tells-whole, tells-doubtful, tells-
 use borrow.Author.Needs.{needs}
 use Rattle.volume.proofs.list_number.Statement.{statement}
 use Rattle.volume.proofs.list_number.Tie as tie
-use Rattle.volume.proofs.list_number.Reads as reads
-use Rattle.volume.proofs.list_number.Lts as lts
 
 enum-told : tie.Need-enum-told
 enum-told c = search needs
 
--- src/lib.rt:789:43
 enum-told-2 : tie.Need-enum-told-2
 enum-told-2 c = search needs
 
--- src/lib.rt:789:43
 cast-list : tie.Need-cast-list
 cast-list c = search needs
 
--- src/lib.rt:789:32
 mul-list : tie.Need-mul-list
 mul-list c = search needs
 
--- src/lib.rt:789:32
 slice-write-list : tie.Need-slice-write-list
 slice-write-list c = search needs
 
--- src/lib.rt:790:42
 enum-told-3 : tie.Need-enum-told-3
 enum-told-3 c = search needs
 
--- src/lib.rt:790:42
 cast-list-2 : tie.Need-cast-list-2
 cast-list-2 c = search needs
 
--- src/lib.rt:790:31
 mul-list-2 : tie.Need-mul-list-2
 mul-list-2 c = search needs
 
--- src/lib.rt:790:31
 slice-write-list-2 : tie.Need-slice-write-list-2
 slice-write-list-2 c = search needs
 
--- src/lib.rt:783:1
 returns : tie.Need-returns
 returns c =
     let a = c .before .before .args in
     λ w e. ap (λ (x : Bool). cond x (a .list .now) (set (a .list .now) (a .at) (a .i))) (sym (tells-whole (c .enum-told .given .1) w e .whole))
 
--- src/lib.rt:783:1
 same-length : tie.Need-same-length
 same-length c = search needs
 
--- src/lib.rt:783:1
 returns-2 : tie.Need-returns-2
 returns-2 c =
     let a = c .before .before .args in
     λ w e. ap (λ (x : Bool). cond x (a .list .now) (set (a .list .now) (a .at) (a .i))) (sym (tells-doubtful (c .enum-told2 .given .1) w e .whole))
 
--- src/lib.rt:783:1
 same-length-2 : tie.Need-same-length-2
 same-length-2 c = search needs
 
--- src/lib.rt:783:1
 returns-3 : tie.Need-returns-3
 returns-3 c =
     let a = c .before .before .args in

@@ -7,11 +7,6 @@ use Rattle.volume.specs.Survey.{verdictBy}
 use Rattle.volume.proofs.Surveying.{Surveys, surveys-none, surveys-next, surveys-all, within-room}
 use Rattle.volume.proofs.survey_in.Statement.{statement}
 use Rattle.volume.proofs.survey_in.Tie as tie
-use Rattle.volume.proofs.survey_in.Reads as reads
-use Rattle.volume.proofs.survey_in.Lts as lts
-use Rattle.volume.proofs.count_verdict.Reads as count-verdict-reads
-use Rattle.volume.proofs.judge_sector.Reads as judge-sector-reads
-use Rattle.volume.proofs.list_number.Reads as list-number-reads
 
 abbrev Inv-loop : tie.InvT-loop
 Inv-loop t w powers m s n local tags remote list₀ plain₀ sum₀ work₀ counts₀ i₀ list plain sum work counts i =
@@ -21,14 +16,12 @@ abbrev μ-loop : tie.MeasureT-loop
 μ-loop t w powers m s n local tags remote list₀ plain₀ sum₀ work₀ counts₀ i₀ list plain sum work counts i =
     n - i
 
--- src/lib.rt:821:5
 loop-holds : tie.Need-loop-holds Inv-loop μ-loop
 loop-holds c =
     let a = c .before .before .before .before .before .before .before .before .args in
     let z = c .before .before .before .before .before .before .before .before .pre in
     (omega arith, surveys-none (verdictBy (schemeOf (a .w .now) (a .powers .now)) (a .s) (a .local .now) (a .tags .now) (a .remote .now)) (a .list .now), z .2, z .3, z .4)
 
--- src/lib.rt:822:13
 judge-sector-requires : tie.Need-judge-sector-requires Inv-loop μ-loop
 judge-sector-requires c κs =
     let a = c .before .before .before .before .before .before .before .before .before .before .before .before .before .args in
@@ -36,33 +29,27 @@ judge-sector-requires c κs =
     let l = c .before .before .before .before .loop in
     (z .0, within-room (a .s) (a .n) (l .i) _ _ _ _ (z .1) (omega arith), l .inv .2, l .inv .3, l .inv .4)
 
--- src/lib.rt:823:18
 sub-at : tie.Need-sub-at Inv-loop μ-loop
 sub-at c = omega arith
 
--- src/lib.rt:824:9
 list-number-requires : tie.Need-list-number-requires Inv-loop μ-loop
 list-number-requires c κs =
     let z = c .before .before .before .before .before .before .before .before .before .before .before .before .before .before .before .before .before .before .before .before .before .before .pre .1 in
     let v = c .before .before .before .before .before .before .before .before .before .before .before .before .before .loop .inv .1 in
     (omega arith, omega arith)
 
--- src/lib.rt:825:13
 count-verdict-requires : tie.Need-count-verdict-requires Inv-loop μ-loop
 count-verdict-requires c κs =
     let z = c .before .before .before .before .before .before .before .before .before .before .before .before .before .before .before .before .before .before .before .before .before .before .before .before .before .pre .1 in
     let v = c .before .before .before .before .before .before .before .before .before .before .before .before .before .before .before .before .loop .inv .1 in
     (omega arith, omega arith, omega arith, omega arith)
 
--- src/lib.rt:827:9
 add-i : tie.Need-add-i Inv-loop μ-loop
 add-i c = let z = c .before .before .before .before .before .before .before .before .before .before .before .before .before .before .before .before .before .before .before .before .before .before .before .before .before .before .pre .1 in omega arith
 
--- src/lib.rt:821:5
 loop-less : tie.Need-loop-less Inv-loop μ-loop
 loop-less c = omega arith
 
--- src/lib.rt:821:5
 loop-again : tie.Need-loop-again Inv-loop μ-loop
 loop-again c =
     let a = c .before .before .before .before .before .before .before .before .before .before .before .before .before .before .before .before .before .before .before .before .before .before .before .before .before .before .args in
@@ -77,31 +64,24 @@ loop-again c =
       j .kept .1 .1 .1 .1 .1 .1 .1 .1 .1 .1 .1 .0 ∙ l .inv .4,
     )
 
--- src/lib.rt:829:21
 mul-counts : tie.Need-mul-counts Inv-loop μ-loop
 mul-counts c = let z = c .before .before .before .before .before .before .before .before .before .before .before .pre .1 in let v = c .before .before .loop .inv .1 in omega arith
 
--- src/lib.rt:829:21
 div-counts : tie.Need-div-counts Inv-loop μ-loop
 div-counts c = let z = c .before .before .before .before .before .before .before .before .before .before .before .pre .1 in omega arith
 
--- src/lib.rt:795:1
 same-length : tie.Need-same-length Inv-loop μ-loop
 same-length c = c .before .before .loop .inv .1 .size
 
--- src/lib.rt:795:1
 same-length-2 : tie.Need-same-length-2 Inv-loop μ-loop
 same-length-2 c = c .before .before .loop .inv .2 ∙ sym (c .before .before .before .before .before .before .before .before .before .before .before .pre .2)
 
--- src/lib.rt:795:1
 same-length-3 : tie.Need-same-length-3 Inv-loop μ-loop
 same-length-3 c = c .before .before .loop .inv .3 ∙ sym (c .before .before .before .before .before .before .before .before .before .before .before .pre .3)
 
--- src/lib.rt:795:1
 same-length-4 : tie.Need-same-length-4 Inv-loop μ-loop
 same-length-4 c = c .before .before .loop .inv .4 ∙ sym (c .before .before .before .before .before .before .before .before .before .before .before .pre .4)
 
--- src/lib.rt:795:1
 returns : tie.Need-returns Inv-loop μ-loop
 returns c =
     let a = c .before .before .before .before .before .before .before .before .before .before .before .args in
