@@ -173,14 +173,14 @@ module _ (w : ℕ → Verdict) (old : List ℕ) where
         (surveys w old (suc i) d new (counts-next (v .counts) (f (w i) e)) (list-next lt (v .entries) x) (z ∙ v .size))
 
   -- the health of them all
-  pub surveys-all : (n i : ℕ) → i ≤ n → n ≤ i → {c : Counts} {list : List ℕ} → Surveys w old i c list
-      → surveyed w n old ≡ (counted (record { whole = c .whole; doubtful = c .doubtful; clashing = c .clashing; lost = c .lost; health = c .whole * 1000 / n }), list)
-  unfolding health
-  surveys-all n i le ge {c} {list} v =
+  pub surveys-all : (n i h : ℕ) → i ≤ n → n ≤ i → {c : Counts} {list : List ℕ} → Surveys w old i c list → h ≡ health (c .whole) n
+      → surveyed w n old ≡ (counted (record { whole = c .whole; doubtful = c .doubtful; clashing = c .clashing; lost = c .lost; health = h }), list)
+  surveys-all n i h le ge {c} {list} v d =
       let e : i ≡ n = omega arith in
       let z : Surveys w old n c list = subst (λ (k : ℕ). Surveys w old k c list) e v in
-      ap₂ (λ (x : Counts) (l : List ℕ). (counted (record { whole = x .whole; doubtful = x .doubtful; clashing = x .clashing; lost = x .lost; health = x .whole * 1000 / n }), l))
+      ap₂ (λ (x : Counts) (l : List ℕ). (counted (record { whole = x .whole; doubtful = x .doubtful; clashing = x .clashing; lost = x .lost; health = health (x .whole) n }), l))
       (sym (z .counts)) (sym (z .entries))
+      ∙ ap (λ (k : ℕ). (counted (record { whole = c .whole; doubtful = c .doubtful; clashing = c .clashing; lost = c .lost; health = k }), list)) (sym d)
 
 -- ---- the prepared key
 

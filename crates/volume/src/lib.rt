@@ -26,7 +26,7 @@ ghost use Rattle.mode.specs.Prepared.{Ready};
 ghost use Rattle.mode.specs.Sealing.{pad, blockwise, sides};
 ghost use Rattle.mode.specs.Transforms.{transformed};
 ghost use Rattle.volume.specs.Lent.{args, Within, placesOf, firstOutcome, secondOutcome, thirdOutcome, placeNamed, mendOutcome};
-ghost use Rattle.volume.specs.Survey.{listRules, surveyRules, Room, verdictAt, verdictBy, Tells, CountsOne, ListsOne, counted, surveyed, reportOf, surveyOutcome};
+ghost use Rattle.volume.specs.Survey.{listRules, surveyRules, Room, verdictAt, verdictBy, Tells, CountsOne, ListsOne, health, counted, surveyed, reportOf, surveyOutcome};
 ghost use Rattle.volume.specs.Volume.{mirror, outcome, readOutcome};
 ghost use Rattle.volume.specs.Volume as W;
 
@@ -747,21 +747,8 @@ fn judge_sector(
     requires { ⌜ Ready (now t) (now w) (now powers) m × Within s i (length (now local)) (length (now tags)) (length (now remote)) × (length (now plain) ≡ s) × (length (now sum) ≡ s) × (length (now work) ≡ s) ⌝ }
     ensures { λ r. ⌜ Tells r (verdictBy (schemeOf (now (w .entry)) (now (powers .entry))) s (now (local .entry)) (now (tags .entry)) (now (remote .entry)) i) ⌝ }
 {
-    let own = sector::context(m.alpha, m.beta, i as u64);
-    judge_part(
-        t,
-        w,
-        powers,
-        own,
-        s,
-        i,
-        local,
-        tags,
-        remote,
-        plain,
-        sum,
-        work,
-    )
+    let c = sector::context(m.alpha, m.beta, i as u64);
+    judge_part(t, w, powers, c, s, i, local, tags, remote, plain, sum, work)
 }
 
 // One more sector counted. Judging refuses nothing but lost and clashing.
@@ -804,6 +791,14 @@ fn list_number(list: &mut [u32], at: usize, i: usize, judged: Judged)
     }
 }
 
+// The health of n sectors.
+fn thousandths(whole: usize, n: usize) -> usize
+    requires { ⌜ (whole ≤ 65536) × (1 ≤ n) ⌝ }
+    ensures { λ r. ⌜ r ≡ health whole n ⌝ }
+{
+    whole * 1000 / n
+}
+
 // The survey with a prepared key; m is the context of any sector.
 fn survey_in(
     t: &Table,
@@ -839,7 +834,7 @@ fn survey_in(
         counts = next;
         i += 1;
     }
-    counts.health = counts.whole * 1000 / n;
+    counts.health = thousandths(counts.whole, n);
     counts
 }
 

@@ -64,11 +64,11 @@ loop-again c =
       j .kept .1 .1 .1 .1 .1 .1 .1 .1 .1 .1 .1 .0 ∙ l .inv .4,
     )
 
-mul-counts : tie.Need-mul-counts Inv-loop μ-loop
-mul-counts c = let z = c .before .before .before .before .before .before .before .before .before .before .before .pre .1 in let v = c .before .before .loop .inv .1 in omega arith
-
-div-counts : tie.Need-div-counts Inv-loop μ-loop
-div-counts c = let z = c .before .before .before .before .before .before .before .before .before .before .before .pre .1 in omega arith
+thousandths-requires : tie.Need-thousandths-requires Inv-loop μ-loop
+thousandths-requires c κs =
+    let z = c .before .before .before .before .before .before .before .before .before .before .pre .1 in
+    let v = c .before .loop .inv .1 in
+    (omega arith, z .some-sector)
 
 same-length : tie.Need-same-length Inv-loop μ-loop
 same-length c = c .before .before .loop .inv .1 .size
@@ -86,7 +86,7 @@ returns : tie.Need-returns Inv-loop μ-loop
 returns c =
     let a = c .before .before .before .before .before .before .before .before .before .before .before .args in
     let l = c .before .before .loop in
-    surveys-all (verdictBy (schemeOf (a .w .now) (a .powers .now)) (a .s) (a .local .now) (a .tags .now) (a .remote .now)) (a .list .now) (a .n) (l .i) (omega arith) (omega arith) (l .inv .1)
+    surveys-all (verdictBy (schemeOf (a .w .now) (a .powers .now)) (a .s) (a .local .now) (a .tags .now) (a .remote .now)) (a .list .now) (a .n) (l .i) (c .thousandths .result) (omega arith) (omega arith) (l .inv .1) (c .thousandths .ensures)
 
 pub survey-in-spec : {M : Type 1} → statement M
 survey-in-spec =
@@ -102,8 +102,7 @@ survey-in-spec =
     add-i
     loop-less
     loop-again
-    mul-counts
-    div-counts
+    thousandths-requires
     same-length
     same-length-2
     same-length-3
