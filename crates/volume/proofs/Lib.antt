@@ -13,3 +13,6 @@ pub mod Stages
 pub mod Mends
 pub mod Keyed
 pub mod Public
+pub mod Tallies
+pub mod Surveying
+pub mod SurveyFacts

@@ -26,7 +26,7 @@ use Rattle.volume.proofs.Refusals.{passed, long-3, shape-facts, refusal
 
 -- ---- ranges
 
-count-le : (s n : ℕ) (v : Triple) → isShape s n v ≡ true → n ≤ 65536
+pub count-le : (s n : ℕ) (v : Triple) → isShape s n v ≡ true → n ≤ 65536
 unfolding isShape shape
 count-le s n v e = leb-true n 65536 (and-left (leb n 65536) _ (and-right (leb 1 n) _ e))
 

@@ -23,11 +23,11 @@ use Rattle.verdict.proofs.Rules.{cond-none, only-rule, first-none, first-some, 
 -- ---- lists of rules
 
 -- no rule holds
-abbrev NoneHolds : List Rule → Type 0
+abbrev pub NoneHolds : List Rule → Type 0
 NoneHolds [] = Unit {0}
 NoneHolds (r ∷ rs) = (r .condition ≡ false) × NoneHolds rs
 
-none-holds : (rs : List Rule) → firstOf rs ≡ none → NoneHolds rs
+pub none-holds : (rs : List Rule) → firstOf rs ≡ none → NoneHolds rs
 none-holds [] e = tt
 none-holds (r ∷ rs) e = let u = cond-none (r .condition) (r .number) (firstOf rs) e in (u .0, none-holds rs (u .1))
 

@@ -29,23 +29,23 @@ use Rattle.volume.specs.Lent.{stage, placesOf, firstOutcome, secondOutco
 
 -- ---- numbers of answers
 
-refusal-some : (f : Refusal) → 0 < refusalNumber f
-refusal-some KeyLength = lit< tt
-refusal-some SectorSize = lit< tt
-refusal-some OtherLength = lit< tt
-refusal-some UnknownSide = lit< tt
-refusal-some NoneFits = lit< tt
-refusal-some Lost = lit< tt
-refusal-some Clashing = lit< tt
-refusal-some VolumeShape = lit< tt
-refusal-some SectorNumber = lit< tt
-refusal-some StageOrder = lit< tt
-refusal-some ListLength = lit< tt
+pub refusal-range : (f : Refusal) → (0 < refusalNumber f) × (refusalNumber f < 128)
+refusal-range KeyLength = (lit< tt, lit< tt)
+refusal-range SectorSize = (lit< tt, lit< tt)
+refusal-range OtherLength = (lit< tt, lit< tt)
+refusal-range UnknownSide = (lit< tt, lit< tt)
+refusal-range NoneFits = (lit< tt, lit< tt)
+refusal-range Lost = (lit< tt, lit< tt)
+refusal-range Clashing = (lit< tt, lit< tt)
+refusal-range VolumeShape = (lit< tt, lit< tt)
+refusal-range SectorNumber = (lit< tt, lit< tt)
+refusal-range StageOrder = (lit< tt, lit< tt)
+refusal-range ListLength = (lit< tt, lit< tt)
 
-place-some : (p : Place) → 0 < placeNumber p
-place-some Local = lit< tt
-place-some Tag = lit< tt
-place-some Remote = lit< tt
+pub place-least : (p : Place) → 128 < placeNumber p
+place-least Local = lit< tt
+place-least Tag = lit< tt
+place-least Remote = lit< tt
 
 -- the number 0 is that of whole
 zero-whole : (v : Verdict) (out o : List ℕ) → verdictOutcome v out ≡ (0, o) → isWhole v ≡ true
@@ -68,10 +68,10 @@ pub judged-whole : (v : Verdict) (out o : List ℕ) (j : Judged) → verdictOutc
 judged-whole v out o j e w = zero-whole v out o (e ∙ ap (λ (k : Judged). (judgedNumber k, o)) w)
 
 pub judged-doubtful : (v : Verdict) (out o : List ℕ) (j : Judged) (p : Place) → verdictOutcome v out ≡ (judgedNumber j, o) → j ≡ J.Doubtful p → isWhole v ≡ false
-judged-doubtful v out o j p e w = some-not-whole v out o (placeNumber p) (e ∙ ap (λ (k : Judged). (judgedNumber k, o)) w) (place-some p)
+judged-doubtful v out o j p e w = some-not-whole v out o (placeNumber p) (e ∙ ap (λ (k : Judged). (judgedNumber k, o)) w) (omega (arith, place-least p))
 
 pub judged-refused : (v : Verdict) (out o : List ℕ) (j : Judged) (f : Refusal) → verdictOutcome v out ≡ (judgedNumber j, o) → j ≡ J.Refused f → isWhole v ≡ false
-judged-refused v out o j f e w = some-not-whole v out o (refusalNumber f) (e ∙ ap (λ (k : Judged). (judgedNumber k, o)) w) (refusal-some f)
+judged-refused v out o j f e w = some-not-whole v out o (refusalNumber f) (e ∙ ap (λ (k : Judged). (judgedNumber k, o)) w) (refusal-range f .0)
 
 -- ---- a stage
 

@@ -26,6 +26,12 @@ isWhole (doubtful d P) = false
 isWhole lost = false
 isWhole clashing = false
 
+unfoldable pub isDoubtful : Verdict → Bool
+isDoubtful (whole P) = false
+isDoubtful (doubtful d P) = true
+isDoubtful lost = false
+isDoubtful clashing = false
+
 unfoldable pub isLost : Verdict → Bool
 isLost (whole P) = false
 isLost (doubtful d P) = false

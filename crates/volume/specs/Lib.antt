@@ -3,3 +3,4 @@ pub mod Volume
 pub mod Machine
 pub mod History
 pub mod Lent
+pub mod Survey

@@ -1,0 +1,173 @@
+-- The survey of a volume (document 01, "A volume"): what it refuses, counts and lists. Assumes nothing: these are definitions.
+-- `SurveyFacts`, at the end, states what is proved of them, as `survey-facts`.
+use mathlib.Core.Path.{_≡_}
+use mathlib.Core.Logic.{_↔_}
+use mathlib.Core.Bool.{Bool, true, false, not, cond}
+use mathlib.Core.List.{List, [], _∷_, _++_, List·Memᴰ}
+use mathlib.Core.Option.{Option, none, some}
+use Prim.Native.Nat.{ℕ, zero, suc, _+_, _*_, _/_, _%_, _<_, _≤_}
+use lib.Dec.{ltb}
+use lib.ListN.{length, getD, drop, set}
+use Rattle.mode.specs.Sealing.{Triple, Key, tweak}
+use Rattle.mode.specs.Scheme.{isSize, Scheme}
+use Rattle.verdict.specs.Answers.{Rule, rule, firstOf, judgedNumber, refusalNumber}
+use Rattle.verdict.specs.Answers.{keyRules}
+use Rattle.verdict.specs.declared.Judged.{Judged}
+use Rattle.verdict.specs.Verdict.{Verdict, judge}
+use Rattle.volume.specs.declared.Counts.{Counts}
+use Rattle.volume.specs.declared.Surveyed.{Surveyed}
+use Rattle.volume.specs.declared.Surveyed.the-variants.{Counted, Refused}
+use Rattle.volume.specs.Answers.{isWhole, isDoubtful, isClashing, isLost}
+use Rattle.volume.specs.History.{AnyBytes}
+use Rattle.volume.specs.Lent.{placesOf, verdictNumber}
+use Rattle.volume.specs.Machine.{Event, Held, gone, kept, start, Volume, AllAllowed, run, hold}
+use Rattle.volume.specs.Volume.{sectorOf, isShape, mirror}
+
+-- ---- counts and the list, from the verdict on each sector
+
+-- how many of the numbers below n pass a test
+unfoldable pub tally : {A : Type 0} → (A → Bool) → (ℕ → A) → ℕ → ℕ
+tally is w zero = 0
+tally is w (suc n) = cond (is (w n)) (suc (tally is w n)) (tally is w n)
+
+-- the numbers below n whose sector is not whole, in rising order
+unfoldable pub listed : (ℕ → Verdict) → ℕ → List ℕ
+listed w zero = []
+listed w (suc n) = cond (isWhole (w n)) (listed w n) (listed w n ++ n ∷ [])
+
+-- of n sectors: the whole ones in thousandths, rounded down
+unfoldable pub health : ℕ → ℕ → ℕ
+health whole n = whole * 1000 / n
+
+-- the counts of the first n sectors, with this health
+abbrev pub countsOf : (ℕ → Verdict) → ℕ → ℕ → Counts
+countsOf w n h = record {
+  whole = tally isWhole w n;
+  doubtful = tally isDoubtful w n;
+  clashing = tally isClashing w n;
+  lost = tally isLost w n;
+  health = h;
+}
+
+-- the lent list afterwards: the entries behind are untouched
+abbrev pub written : (ℕ → Verdict) → ℕ → List ℕ → List ℕ
+written w n list = listed w n ++ drop (length (listed w n)) list
+
+-- ---- the call
+
+-- what it answers: the number of a refusal, or the five numbers
+pub data Report : Type 0 where
+  refused : ℕ → Report
+  counted : Counts → Report
+
+abbrev pub reportOf : Surveyed → Report
+reportOf (Counted c) = counted c
+reportOf (Refused r) = refused (refusalNumber r)
+
+-- refusals 2, 8 and 11; `right` says whether n and the images have the right shape, `room` is the list's length
+abbrev pub listRules : ℕ → ℕ → Bool → ℕ → List Rule
+listRules s n right room = rule 2 (not (isSize s)) ∷ rule 8 (not right) ∷ rule 11 (ltb room n) ∷ []
+
+abbrev pub surveyRules : Key → ℕ → ℕ → Bool → ℕ → List Rule
+surveyRules k s n right room = keyRules k ++ listRules s n right room
+
+-- the verdict on sector i of the images v
+abbrev pub verdictAt : Scheme → ℕ → Triple → ℕ → Verdict
+verdictAt S s v i = judge S i (sectorOf s i v)
+
+-- what a survey that is not refused answers, and the list afterwards
+abbrev pub surveyed : (ℕ → Verdict) → ℕ → List ℕ → Report × List ℕ
+surveyed w n list = (counted (countsOf w n (health (tally isWhole w n) n)), written w n list)
+
+-- a refusal leaves the list as it was
+abbrev pub settled : Option ℕ → Report × List ℕ → List ℕ → Report × List ℕ
+settled none after before = after
+settled (some k) after before = (refused k, before)
+
+unfoldable pub surveyOutcome : Triple → Key → ℕ → ℕ → List ℕ → Report × List ℕ
+surveyOutcome v k s n list =
+    settled (firstOf (surveyRules k s n (isShape s n v) (length list))) (surveyed (verdictAt (mirror k) s v) n list) list
+
+-- ---- what the inner functions are lent, and what they give
+
+-- a sector size s, a count n and a list with room for it, and images of l, g and r bytes
+pub record Room (s n l g r room : ℕ) : Type 0 where
+  pub blocks : s % 16 ≡ 0
+  pub most : s ≤ 4096
+  pub some-sector : 1 ≤ n
+  pub count : n ≤ 65536
+  pub local-size : l ≡ n * s
+  pub tag-size : g ≡ n * 16
+  pub remote-size : r ≡ n * s
+  pub list-size : n ≤ room
+
+-- the verdicts by the mode, with the tweak of each number
+abbrev pub verdictBy : Scheme → ℕ → List ℕ → List ℕ → List ℕ → ℕ → Verdict
+verdictBy S s l g r i = judge S (tweak i) (placesOf s i l g r)
+
+-- the code's answer is that of the verdict w
+abbrev pub Tells : Judged → Verdict → Type 0
+Tells j w = judgedNumber j ≡ verdictNumber w
+
+-- one more sector, with the verdict w
+abbrev pub addIf : Bool → ℕ → ℕ
+addIf b k = cond b (suc k) k
+
+abbrev pub counting : Verdict → Counts → Counts
+counting w c = record {
+  whole = addIf (isWhole w) (c .whole);
+  doubtful = addIf (isDoubtful w) (c .doubtful);
+  clashing = addIf (isClashing w) (c .clashing);
+  lost = addIf (isLost w) (c .lost);
+  health = c .health;
+}
+
+-- r counts one more sector than c, the one of which j tells the verdict
+abbrev pub CountsOne : Judged → Counts → Counts → Type 0
+CountsOne j c r = (w : Verdict) → Tells j w → r ≡ counting w c
+
+-- the list has the number i at this entry, unless j tells that the sector is whole
+abbrev pub ListsOne : Judged → ℕ → ℕ → List ℕ → List ℕ → Type 0
+ListsOne j at i old new = (w : Verdict) → Tells j w → new ≡ cond (isWhole w) old (set old at i)
+
+-- ---- what is proved
+
+-- each entry is above those before it
+abbrev pub Rises : List ℕ → Type 0
+Rises l = (i j : ℕ) → i < j → j < length l → getD l i 0 < getD l j 0
+
+unfoldable pub isKept : Held → Bool
+isKept gone = false
+isKept (kept P d) = true
+
+-- a survey with the volume's key, s and n, on the images v and a list of this length, that is not refused
+abbrev pub Accepted : Volume → Triple → ℕ → Type 0
+Accepted vol v room = firstOf (surveyRules (vol .key) (vol .size) (vol .count) (isShape (vol .size) (vol .count) v) room) ≡ none
+
+-- such a survey's verdicts
+abbrev pub verdicts : Volume → Triple → ℕ → Verdict
+verdicts vol v = verdictAt (mirror (vol .key)) (vol .size) v
+
+pub record SurveyFacts : Type 0 where
+  -- a survey that is not refused answers with the counts of its verdicts
+  pub answers : (vol : Volume) (v : Triple) (list : List ℕ) → Accepted vol v (length list)
+      → surveyOutcome v (vol .key) (vol .size) (vol .count) list ≡ surveyed (verdicts vol v) (vol .count) list
+  -- the four counts add up to n
+  pub all-counted : (w : ℕ → Verdict) (n : ℕ) → tally isWhole w n + tally isDoubtful w n + tally isClashing w n + tally isLost w n ≡ n
+  -- a number is listed exactly if it is below n and its sector is not whole; and it is listed once
+  pub in-list : (w : ℕ → Verdict) (n i : ℕ) → List·Memᴰ i (listed w n) ↔ ((i < n) × (isWhole (w i) ≡ false))
+  pub list-rises : (w : ℕ → Verdict) (n : ℕ) → Rises (listed w n)
+  -- health is at most 1,000, and 1,000 exactly if all sectors are whole
+  pub health-most : (w : ℕ → Verdict) (n : ℕ) → 1 ≤ n → health (tally isWhole w n) n ≤ 1000
+  pub health-full : (w : ℕ → Verdict) (n : ℕ) → 1 ≤ n
+      → (health (tally isWhole w n) n ≡ 1000) ↔ ((i : ℕ) → i < n → isWhole (w i) ≡ true)
+  -- after every list of events, from images of any bytes and all sectors gone: no sector that the machine keeps is lost,
+  pub kept-found : (vol : Volume) (v : Triple) → AnyBytes v → (es : List Event) → AllAllowed mirror vol v es
+      → (room : ℕ) → Accepted vol (run mirror vol v es) room
+      → (i : ℕ) → i < vol .count → isKept (hold mirror vol v start es i) ≡ true → isLost (verdicts vol (run mirror vol v es) i) ≡ false
+  -- so no more are kept than the survey counts as whole, doubtful or clashing
+  pub kept-counted : (vol : Volume) (v : Triple) → AnyBytes v → (es : List Event) → AllAllowed mirror vol v es
+      → (room : ℕ) → Accepted vol (run mirror vol v es) room
+      → let w = verdicts vol (run mirror vol v es) in
+      let n = vol .count in
+      tally isKept (hold mirror vol v start es) n ≤ tally isWhole w n + tally isDoubtful w n + tally isClashing w n
