@@ -1,0 +1,97 @@
+-- One line of the program `frames` (document 01, "Without the volume"): what is printed for it. Assumes nothing: these are definitions.
+use mathlib.Core.Bool.{Bool, true, not, _&&_, _||_, cond}
+use mathlib.Core.List.{List, [], _∷_, _++_}
+use Prim.Native.Nat.{ℕ, _+_, _*_, _-_, _/_, _%_}
+use lib.Dec.{eqb, leb}
+use lib.ListN.{length, take, drop, replicate}
+use Rattle.block.specs.Bytes.{fromBytes}
+use Rattle.mode.specs.Scheme.{isSize}
+use Rattle.sector.specs.Answers.{Rule, rule, firstOf, settle}
+use Rattle.sector.specs.Calls.{triple, judgeCall, combineCall}
+use Rattle.sector.specs.Calls as C
+
+-- ---- hexadecimal, in ASCII
+
+-- whether x lies from a to b
+abbrev pub between : ℕ → ℕ → ℕ → Bool
+between a b x = leb a x && leb x b
+
+-- 0 to 9, A to F or a to f
+unfoldable pub isDigit : ℕ → Bool
+isDigit c = between 48 57 c || (between 65 70 c || between 97 102 c)
+
+unfoldable pub digitValue : ℕ → ℕ
+digitValue c = cond (leb c 57) (c - 48) (cond (leb c 70) (c - 55) (c - 87))
+
+unfoldable pub allDigits : List ℕ → Bool
+allDigits [] = true
+allDigits (c ∷ cs) = isDigit c && allDigits cs
+
+-- the bytes that pairs of digits stand for
+unfoldable pub decode : List ℕ → List ℕ
+decode [] = []
+decode (a ∷ []) = []
+decode (a ∷ b ∷ cs) = (digitValue a * 16 + digitValue b) ∷ decode cs
+
+-- the digit of a value below 16, in lower case
+unfoldable pub digit : ℕ → ℕ
+digit v = cond (leb v 9) (v + 48) (v + 87)
+
+unfoldable pub encode : List ℕ → List ℕ
+encode [] = []
+encode (b ∷ bs) = digit (b / 16) ∷ digit (b % 16) ∷ encode bs
+
+-- ---- the bytes f of a frame
+
+-- the first byte; 0, which is no kind, if there is none
+abbrev pub kind : List ℕ → ℕ
+kind [] = 0
+kind (b ∷ bs) = b
+
+-- what stands beside the two sectors: the kind, and in a frame 01 a key, an address and a tag
+unfoldable pub beside : List ℕ → ℕ
+beside f = cond (eqb (kind f) 1) (1 + 32 + 8 + 16) 1
+
+-- the two sectors' bytes together, and half of them
+unfoldable pub together : List ℕ → ℕ
+together f = length f - beside f
+
+unfoldable pub half : List ℕ → ℕ
+half f = together f / 2
+
+-- n bytes from byte a on
+abbrev pub field : ℕ → ℕ → List ℕ → List ℕ
+field a n f = take n (drop a f)
+
+-- Judge for a frame 01, Combine for a frame 02, with sectors of s bytes: the answer's number and the output
+unfoldable pub called : ℕ → List ℕ → ℕ × List ℕ
+called s f = cond (eqb (kind f) 1)
+    (judgeCall (C.key (field 1 32 f)) (fromBytes (field 33 8 f))
+    (triple (field 41 s f) (field (41 + s) 16 f) (field (57 + s) s f)) (replicate s 0))
+    (combineCall (field 1 s f) (field (1 + s) s f) (replicate s 0))
+
+-- ---- a line
+
+-- the refusals in order
+unfoldable pub frameRules : List ℕ → List Rule
+frameRules line =
+    let f : List ℕ = decode line in
+    rule 12 (eqb (length line) 0)
+    ∷ rule 12 (leb 16499 (length line))
+    ∷ rule 12 (not (eqb (length line % 2) 0))
+    ∷ rule 12 (not (allDigits line))
+    ∷ rule 12 (not (eqb (kind f) 1 || eqb (kind f) 2))
+    ∷ rule 12 (eqb (kind f) 1 && not (leb 57 (length f)))
+    ∷ rule 3 (not (eqb (together f % 2) 0))
+    ∷ rule 2 (not (isSize (half f)))
+    ∷ []
+
+unfoldable pub frameAnswer : List ℕ → ℕ × List ℕ
+frameAnswer line = let f : List ℕ = decode line in settle (firstOf (frameRules line)) (called (half f) f) []
+
+-- the number in two digits, behind it the plaintext unless the number is a refusal's, and a line feed
+unfoldable pub shown : ℕ × List ℕ → List ℕ
+shown (n, P) = encode (n ∷ cond (between 1 12 n) [] P) ++ (10 ∷ [])
+
+unfoldable pub printLine : List ℕ → List ℕ
+printLine line = shown (frameAnswer line)
