@@ -63,35 +63,49 @@ half f = together f / 2
 abbrev pub field : ℕ → ℕ → List ℕ → List ℕ
 field a n f = take n (drop a f)
 
--- Judge for a frame 01, Combine for a frame 02, with sectors of s bytes: the answer's number and the output
-unfoldable pub called : ℕ → List ℕ → ℕ × List ℕ
-called s f = cond (eqb (kind f) 1)
-    (judgeCall (C.key (field 1 32 f)) (fromBytes (field 33 8 f))
-    (triple (field 41 s f) (field (41 + s) 16 f) (field (57 + s) s f)) (replicate s 0))
-    (combineCall (field 1 s f) (field (1 + s) s f) (replicate s 0))
+-- Judge for a frame 01, Combine for a frame 02, with an output as long as a sector: the answer's number and the output afterwards
+unfoldable pub judged : List ℕ → List ℕ → ℕ × List ℕ
+judged f out =
+    let s : ℕ = length out in
+    judgeCall (C.key (field 1 32 f)) (fromBytes (field 33 8 f)) (triple (field 41 s f) (field (41 + s) 16 f) (field (57 + s) s f)) out
+
+unfoldable pub combined : List ℕ → List ℕ → ℕ × List ℕ
+combined f out = let s : ℕ = length out in combineCall (field 1 s f) (field (1 + s) s f) out
+
+unfoldable pub called : List ℕ → List ℕ → ℕ × List ℕ
+called f out = cond (eqb (kind f) 1) (judged f out) (combined f out)
 
 -- ---- a line
 
--- the refusals in order
+-- the refusals of a line of n bytes, of the frame's kind, and of its two sectors
+abbrev pub lengthRules : ℕ → List Rule
+lengthRules n = rule 12 (eqb n 0) ∷ rule 12 (leb 16499 n) ∷ rule 12 (not (eqb (n % 2) 0)) ∷ []
+
+abbrev pub kindRules : List ℕ → List Rule
+kindRules f =
+    rule 12 (not (eqb (kind f) 1 || eqb (kind f) 2))
+    ∷ rule 12 (eqb (kind f) 1 && not (leb 57 (length f)))
+    ∷ []
+
+abbrev pub sectorRules : List ℕ → List Rule
+sectorRules f = rule 3 (not (eqb (together f % 2) 0)) ∷ rule 2 (not (isSize (half f))) ∷ []
+
+-- all of them in order
 unfoldable pub frameRules : List ℕ → List Rule
 frameRules line =
     let f : List ℕ = decode line in
-    rule 12 (eqb (length line) 0)
-    ∷ rule 12 (leb 16499 (length line))
-    ∷ rule 12 (not (eqb (length line % 2) 0))
-    ∷ rule 12 (not (allDigits line))
-    ∷ rule 12 (not (eqb (kind f) 1 || eqb (kind f) 2))
-    ∷ rule 12 (eqb (kind f) 1 && not (leb 57 (length f)))
-    ∷ rule 3 (not (eqb (together f % 2) 0))
-    ∷ rule 2 (not (isSize (half f)))
-    ∷ []
+    lengthRules (length line) ++ (rule 12 (not (allDigits line)) ∷ (kindRules f ++ sectorRules f))
 
 unfoldable pub frameAnswer : List ℕ → ℕ × List ℕ
-frameAnswer line = let f : List ℕ = decode line in settle (firstOf (frameRules line)) (called (half f) f) []
+frameAnswer line = let f : List ℕ = decode line in settle (firstOf (frameRules line)) (called f (replicate (half f) 0)) []
 
--- the number in two digits, behind it the plaintext unless the number is a refusal's, and a line feed
+-- a number and a plaintext in digits, and a line feed
+unfoldable pub printed : ℕ → List ℕ → List ℕ
+printed n P = encode (n ∷ P) ++ (10 ∷ [])
+
+-- behind the number stands the plaintext, unless the number is a refusal's
 unfoldable pub shown : ℕ × List ℕ → List ℕ
-shown (n, P) = encode (n ∷ cond (between 1 12 n) [] P) ++ (10 ∷ [])
+shown (n, P) = printed n (cond (between 1 12 n) [] P)
 
 unfoldable pub printLine : List ℕ → List ℕ
 printLine line = shown (frameAnswer line)
