@@ -3,7 +3,7 @@ use mathlib.Core.Bool.{Bool, true, not, _&&_, _||_, cond}
 use mathlib.Core.List.{List, [], _∷_, _++_}
 use Prim.Native.Nat.{ℕ, _+_, _*_, _-_, _/_, _%_}
 use lib.Dec.{eqb, leb}
-use lib.ListN.{length, take, drop, replicate}
+use lib.ListN.{length, take, drop, getD, replicate}
 use Rattle.block.specs.Bytes.{fromBytes}
 use Rattle.mode.specs.Scheme.{isSize}
 use Rattle.sector.specs.Answers.{Rule, rule, firstOf, settle}
@@ -45,8 +45,7 @@ encode (b ∷ bs) = digit (b / 16) ∷ digit (b % 16) ∷ encode bs
 
 -- the first byte; 0, which is no kind, if there is none
 abbrev pub kind : List ℕ → ℕ
-kind [] = 0
-kind (b ∷ bs) = b
+kind f = getD f 0 0
 
 -- what stands beside the two sectors: the kind, and in a frame 01 a key, an address and a tag
 unfoldable pub beside : List ℕ → ℕ
@@ -77,7 +76,7 @@ called f out = cond (eqb (kind f) 1) (judged f out) (combined f out)
 
 -- ---- a line
 
--- the refusals of a line of n bytes, of the frame's kind, and of its two sectors
+-- the refusals of a line of n bytes, of a frame's kind, and of two sectors with n bytes together
 abbrev pub lengthRules : ℕ → List Rule
 lengthRules n = rule 12 (eqb n 0) ∷ rule 12 (leb 16499 n) ∷ rule 12 (not (eqb (n % 2) 0)) ∷ []
 
@@ -87,17 +86,16 @@ kindRules f =
     ∷ rule 12 (eqb (kind f) 1 && not (leb 57 (length f)))
     ∷ []
 
-abbrev pub sectorRules : List ℕ → List Rule
-sectorRules f = rule 3 (not (eqb (together f % 2) 0)) ∷ rule 2 (not (isSize (half f))) ∷ []
+abbrev pub sectorRules : ℕ → List Rule
+sectorRules n = rule 3 (not (eqb (n % 2) 0)) ∷ rule 2 (not (isSize (n / 2))) ∷ []
 
--- all of them in order
-unfoldable pub frameRules : List ℕ → List Rule
-frameRules line =
-    let f : List ℕ = decode line in
-    lengthRules (length line) ++ (rule 12 (not (allDigits line)) ∷ (kindRules f ++ sectorRules f))
-
+-- a frame's answer: the first refusal, or the call's with an output of zeros
 unfoldable pub frameAnswer : List ℕ → ℕ × List ℕ
-frameAnswer line = let f : List ℕ = decode line in settle (firstOf (frameRules line)) (called f (replicate (half f) 0)) []
+frameAnswer f = settle (firstOf (kindRules f ++ sectorRules (together f))) (called f (replicate (half f) 0)) []
+
+-- a line's: the first refusal, or its frame's
+unfoldable pub lineAnswer : List ℕ → ℕ × List ℕ
+lineAnswer line = settle (firstOf (lengthRules (length line) ++ (rule 12 (not (allDigits line)) ∷ []))) (frameAnswer (decode line)) []
 
 -- a number and a plaintext in digits, and a line feed
 unfoldable pub printed : ℕ → List ℕ → List ℕ
@@ -108,4 +106,4 @@ unfoldable pub shown : ℕ × List ℕ → List ℕ
 shown (n, P) = printed n (cond (between 1 12 n) [] P)
 
 unfoldable pub printLine : List ℕ → List ℕ
-printLine line = shown (frameAnswer line)
+printLine line = shown (lineAnswer line)

@@ -1,2 +1,3 @@
 pub mod Frame
+pub mod Inner
 pub mod Lines

@@ -1,6 +1,6 @@
 use native.Mathlib.Omega.{arith}
 use lib.ListN.{length-set}
-use Rattle.frame.proofs.Printing.{body-length, body-printed}
+use Rattle.frame.proofs.Printing.{length-printed, body-length, body-printed}
 use borrow.Author.Needs.{needs}
 use Rattle.frame.proofs.show.Statement.{statement}
 use Rattle.frame.proofs.show.Tie as tie
@@ -45,7 +45,7 @@ same-length : tie.Need-same-length
 same-length c = simp length-set (body-length (c .before .before .before .before .before .before .before .before .args .number) (c .before .before .before .before .before .before .before .before .args .plain .now) (c .before .before .encode .last .1 .0) (c .before .before .before .before .before .digit .result) (c .before .before .before .before .digit2 .result) (c .before .before .encode .ensures) (c .before .before .before .before .before .before .before .before .args .out .now) (c .before .before .before .before .before .before .before .before .pre))
 
 returns : tie.Need-returns
-returns c = (body-printed (c .before .before .before .before .before .before .before .before .args .number) (c .before .before .before .before .before .before .before .before .args .plain .now) (c .before .before .encode .last .1 .0) (c .before .before .before .before .before .digit .result) (c .before .before .before .before .digit2 .result) (c .before .before .encode .ensures) (c .before .before .before .before .before .before .before .before .args .out .now) (c .before .before .before .before .before .before .before .before .pre) (c .before .before .before .before .before .digit .ensures) (c .before .before .before .before .digit2 .ensures), omega arith)
+returns c = (body-printed (c .before .before .before .before .before .before .before .before .args .number) (c .before .before .before .before .before .before .before .before .args .plain .now) (c .before .before .encode .last .1 .0) (c .before .before .before .before .before .digit .result) (c .before .before .before .before .digit2 .result) (c .before .before .encode .ensures) (c .before .before .before .before .before .before .before .before .args .out .now) (c .before .before .before .before .before .before .before .before .pre) (c .before .before .before .before .before .digit .ensures) (c .before .before .before .before .digit2 .ensures), omega (arith, length-printed (c .before .before .before .before .before .before .before .before .args .number) (c .before .before .before .before .before .before .before .before .args .plain .now)), omega arith)
 
 pub show-spec : {M : Type 1} → statement M
 show-spec =
