@@ -1,18 +1,18 @@
 -- The parts of a frame that are lent to Judge and Combine, and what is printed of their answers. Assumes nothing.
-use mathlib.Core.Path.{_≡_, refl, sym, ap, _∙_}
+use mathlib.Core.Path.{_≡_, refl, sym, ap, _∙_, subst}
 use mathlib.Core.Bool.{Bool, true, false, cond}
 use mathlib.Core.List.{List, [], _∷_, _++_}
 use Prim.Native.Nat.{ℕ, zero, suc, _+_, _*_, _-_, _≤_}
-use native.Mathlib.Nat.{le-of-suc-le-suc, le-trans}
+use native.Mathlib.Nat.{le-of-suc-le-suc, le-trans, le-of-eq}
 use native.Mathlib.Omega.{arith}
 use lib.Dec.{eqb}
-use lib.ListN.{length, take, drop, replicate}
+use lib.ListN.{length, take, drop, replicate, length-replicate}
 use borrow.Author.Tests.{eq-eqb, ne-eqb}
 use borrow.Rule.Slice.PartMut.{midOf}
 use Rattle.block.specs.Bytes.{fromBytes}
 use Rattle.sector.specs.Calls.{key, triple, judgeCall, combineCall}
 use Rattle.frame.specs.Frame.{between, kind, beside, field, judged, combined, called, printed, shown}
-use Rattle.frame.specs.Inner.{Prints}
+use Rattle.frame.specs.Inner.{Prints, Sectors}
 
 -- ---- the calls
 
@@ -69,12 +69,25 @@ module _ {x : ℕ × List ℕ} {n : ℕ} {o : List ℕ} (e : x ≡ (n, o)) where
   unfolding shown
   shown-plain h = ap shown e ∙ ap (λ b. printed n (cond b [] o)) h
 
--- the room for a plaintext
+-- ---- the room for a plaintext
 
 take-zeros : (s n : ℕ) → s ≤ n → take {A = ℕ} s (replicate n 0) ≡ replicate s 0
 take-zeros zero n h = refl
 take-zeros (suc s) zero h = absurd (omega arith)
 take-zeros (suc s) (suc n) h = ap (λ (l : List ℕ). 0 ∷ l) (take-zeros s n (le-of-suc-le-suc h))
 
-pub zeros-are : (s : ℕ) → s ≤ 4096 → take {A = ℕ} s (replicate 4096 0) ≡ replicate s 0
-zeros-are s h = take-zeros s 4096 h
+module _ (f : List ℕ) (s : ℕ) (h : s ≤ 4096) where
+  abbrev room : List ℕ
+  room = take {A = ℕ} s (replicate 4096 0)
+
+  room-long : length room ≡ s
+  room-long = ap length (take-zeros s 4096 h) ∙ length-replicate s 0
+
+  pub room-fits : (n : ℕ) → Sectors s f → 2 * s + 3 ≤ n → Sectors (length room) f × (2 * length room + 3 ≤ n)
+  room-fits n p q = subst (λ (k : ℕ). Sectors k f × (2 * k + 3 ≤ n)) (sym room-long) (p, q)
+
+  pub room-printed : (before after : List ℕ) (r : ℕ) → Prints (shown (called f room)) before after r (2 * length room + 3)
+      → Prints (shown (called f (replicate s 0))) before after r (2 * s + 3)
+  room-printed before after r p =
+      reprint before after r (2 * s + 3) (ap (λ (l : List ℕ). shown (called f l)) (sym (take-zeros s 4096 h)))
+      (le-of-eq (ap (λ (k : ℕ). 2 * k + 3) room-long)) p

@@ -1,12 +1,14 @@
 -- The refusals of a line and of a frame, and what a frame that passes has. Assumes nothing.
-use mathlib.Core.Path.{_≡_, refl, sym, ap, _∙_}
+use mathlib.Core.Path.{_≡_, refl, sym, ap, _∙_, subst}
 use mathlib.Core.Bool.{Bool, true, false, not, _&&_, _||_, cond}
 use mathlib.Core.List.{List, [], _∷_, _++_}
 use mathlib.Core.Option.{Option, none, some}
-use Prim.Native.Nat.{ℕ, zero, suc, _+_, _*_, _/_, _%_, _≤_}
+use Prim.Native.Nat.{ℕ, zero, suc, _+_, _*_, _-_, _/_, _%_, _≤_}
+use native.Mathlib.Nat.{le-trans, le-of-eq}
 use native.Mathlib.Omega.{arith}
 use lib.Dec.{eqb, leb}
-use lib.ListN.{length, replicate}
+use lib.ListN.{length, take, replicate, length-replicate}
+use lib.Seq.{length-take-le}
 use borrow.Author.Tests.{eqb-true, eqb-false, leb-true, leb-false}
 use Rattle.block.proofs.Lists.{and-left, and-right}
 use Rattle.mode.specs.Scheme.{isSize}
@@ -38,12 +40,31 @@ sectors-even n e = go (eqb (n % 2) 0) (isSize (n / 2)) refl refl e
     go true false p q k = absurd (let z : _≡_ {A = ℕ} 0 1 = cc in omega arith)
     go false d p q k = absurd (let z : _≡_ {A = ℕ} 0 1 = cc in omega arith)
 
-pub accepted : (f : List ℕ) → 1 ≤ length f → firstOf (kindRules f ++ sectorRules (together f)) ≡ none → Sectors (half f) f × (half f ≤ 4096)
+beside-some : (f : List ℕ) → 1 ≤ beside f
+unfolding beside
+beside-some f = go (eqb (kind f) 1)
+  where
+    go : (b : Bool) → 1 ≤ cond b 57 1
+    go true = omega arith
+    go false = omega arith
+
+pub accepted : (f : List ℕ) → 1 ≤ length f → firstOf (kindRules f ++ sectorRules (together f)) ≡ none
+    → Sectors (half f) f × (half f ≤ 4096) × (2 * half f + 1 ≤ length f)
 unfolding together half
 accepted f h e =
     let b = beside-fits f h (none-left (sectorRules (together f)) (kindRules f) e) in
+    let o = beside-some f in
     let t = sectors-even (together f) (none-right (sectorRules (together f)) (kindRules f) e) in
-    ((h, omega arith), t .1)
+    ((h, omega arith), t .1, omega arith)
+
+-- from the number that the code has worked out
+pub together-is : (f : List ℕ) (b : ℕ) → b ≡ beside f → together f ≡ length f - b
+unfolding together
+together-is f b e = ap (λ (k : ℕ). length f - k) (sym e)
+
+pub half-is : (f : List ℕ) (b : ℕ) → b ≡ beside f → half f ≡ (length f - b) / 2
+unfolding half
+half-is f b e = ap (λ (k : ℕ). k / 2) (together-is f b e)
 
 -- ---- what is printed for a refusal
 
@@ -88,7 +109,7 @@ module _ (line : List ℕ) where
     digits-pass d = ap shown (settle-none (frameAnswer (decode line)) [] (first-none digitRule (lengthRules (length line)) e ∙ ap (λ b. firstOf (rule 12 (not b) ∷ [])) d))
 
 -- a line that is not refused for its length
-pub line-length : (n : ℕ) → firstOf (lengthRules n) ≡ none → (1 ≤ n) × (n ≤ 16498) × (n % 2 ≡ 0)
+line-length : (n : ℕ) → firstOf (lengthRules n) ≡ none → (1 ≤ n) × (n ≤ 16498) × (n % 2 ≡ 0)
 line-length n e = go (eqb n 0) (leb 16499 n) (eqb (n % 2) 0) refl refl refl e
   where
     go : (b d t : Bool) → eqb n 0 ≡ b → leb 16499 n ≡ d → eqb (n % 2) 0 ≡ t
@@ -103,3 +124,20 @@ line-length n e = go (eqb n 0) (leb 16499 n) (eqb (n % 2) 0) refl refl refl e
     go true d t p q r k = absurd (let z : _≡_ {A = ℕ} 0 1 = cc in omega arith)
     go false true t p q r k = absurd (let z : _≡_ {A = ℕ} 0 1 = cc in omega arith)
     go false false false p q r k = absurd (let z : _≡_ {A = ℕ} 0 1 = cc in omega arith)
+
+-- the bytes of such a line find room
+module _ (line : List ℕ) (e : firstOf (lengthRules (length line)) ≡ none) where
+  abbrev frame : List ℕ
+  frame = take {A = ℕ} (length line / 2) (replicate 8249 0)
+
+  pub half-within : length line / 2 ≤ 8249
+  half-within = let z = line-length (length line) e in omega arith
+
+  pub frame-long : length line / 2 ≡ length frame
+  frame-long = sym (length-take-le (length line / 2) (replicate {A = ℕ} 8249 0) (le-trans half-within (le-of-eq (sym (length-replicate {A = ℕ} 8249 0)))))
+
+  pub frame-room : (n : ℕ) → length line + 3 ≤ n
+      → (firstOf (lengthRules (length line)) ≡ none) × (length line ≡ 2 * length frame) × (1 ≤ length frame) × (length line + 3 ≤ n)
+  frame-room n h =
+      subst (λ (k : ℕ). (firstOf (lengthRules (length line)) ≡ none) × (length line ≡ 2 * k) × (1 ≤ k) × (length line + 3 ≤ n)) frame-long
+      (let z = line-length (length line) e in (e, omega arith, omega arith, h))

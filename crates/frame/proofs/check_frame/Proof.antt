@@ -5,7 +5,7 @@ use Rattle.sector.specs.Answers.{firstOf}
 use Rattle.sector.proofs.Checks.{first-none, first-some}
 use Rattle.frame.specs.Frame.{together, kindRules, sectorRules}
 use Rattle.frame.specs.Inner.{refusalOf}
-use Rattle.frame.proofs.Refusals.{beside-fits, nonzero}
+use Rattle.frame.proofs.Refusals.{beside-fits, together-is, nonzero}
 use borrow.Author.Needs.{needs}
 use Rattle.frame.proofs.check_frame.Statement.{statement}
 use Rattle.frame.proofs.check_frame.Tie as tie
@@ -23,7 +23,7 @@ check-sectors-requires : tie.Need-check-sectors-requires
 check-sectors-requires c κs = search needs
 
 returns : tie.Need-returns
-returns c = first-none (sectorRules (together (c .before .before .before .before .before .args .frame .now))) (kindRules (c .before .before .before .before .before .args .frame .now)) (c .before .before .before .check-kind .ensures ∙ ap refusalOf (c .before .before .if1 .taken)) ∙ ap (λ (n : ℕ). firstOf (sectorRules n)) ? ∙ c .check-sectors .ensures
+returns c = first-none (sectorRules (together (c .before .before .before .before .before .args .frame .now))) (kindRules (c .before .before .before .before .before .args .frame .now)) (c .before .before .before .check-kind .ensures ∙ ap refusalOf (c .before .before .if1 .taken)) ∙ ap (λ (n : ℕ). firstOf (sectorRules n)) (together-is (c .before .before .before .before .before .args .frame .now) (c .before .beside .result) (c .before .beside .ensures)) ∙ c .check-sectors .ensures
 
 returns-2 : tie.Need-returns-2
 returns-2 c = first-some (sectorRules (together (c .before .before .before .args .frame .now))) (kindRules (c .before .before .before .args .frame .now)) (nonzero (c .before .check-kind .result) (c .before .check-kind .ensures) (c .if1 .left)) ∙ sym (nonzero (c .before .check-kind .result) refl (c .if1 .left))

@@ -1,52 +1,44 @@
+use mathlib.Core.Path.{ap, _∙_}
+use Prim.Native.Nat.{ℕ}
+use native.Mathlib.Omega.{arith}
+use lib.ListN.{replicate}
+use Rattle.frame.specs.Frame.{half, called, shown}
+use Rattle.frame.specs.Inner.{refusalOf}
+use Rattle.frame.proofs.Frames.{reprint}
+use Rattle.frame.proofs.Refusals.{accepted, half-is, frame-passes, frame-refused}
 use borrow.Author.Needs.{needs}
 use Rattle.frame.proofs.print_frame.Statement.{statement}
 use Rattle.frame.proofs.print_frame.Tie as tie
-use Rattle.frame.proofs.print_frame.Reads as reads
-use Rattle.frame.proofs.print_frame.Lts as lts
-use Rattle.frame.proofs.beside.Reads as beside-reads
-use Rattle.frame.proofs.check_frame.Reads as check-frame-reads
-use Rattle.frame.proofs.print_sectors.Reads as print-sectors-reads
-use Rattle.frame.proofs.show.Reads as show-reads
 
--- src/lib.rt:271:9
 check-frame-requires : tie.Need-check-frame-requires
 check-frame-requires c κs = search needs
 
--- src/lib.rt:273:32
 beside-requires : tie.Need-beside-requires
 beside-requires c κs = search needs
 
--- src/lib.rt:273:18
 sub-s : tie.Need-sub-s
-sub-s c = ?
+sub-s c = let z = accepted (c .before .before .before .before .before .args .frame .now) (c .before .before .before .before .before .pre .0) (c .before .before .check-frame .ensures ∙ ap refusalOf (c .before .if1 .taken)) in omega arith
 
--- src/lib.rt:274:9
 print-sectors-requires : tie.Need-print-sectors-requires
-print-sectors-requires c κs = ?
+print-sectors-requires c κs = let z = accepted (c .before .before .before .before .before .before .args .frame .now) (c .before .before .before .before .before .before .pre .0) (c .before .before .before .check-frame .ensures ∙ ap refusalOf (c .before .before .if1 .taken)) in omega arith
 
--- src/lib.rt:274:9
 same-length : tie.Need-same-length
 same-length c = search needs
 
--- src/lib.rt:274:9
 returns : tie.Need-returns
-returns c = ?
+returns c = let z = accepted (c .before .before .before .before .before .before .before .before .before .args .frame .now) (c .before .before .before .before .before .before .before .before .before .pre .0) (c .before .before .before .before .before .before .check-frame .ensures ∙ ap refusalOf (c .before .before .before .before .before .if1 .taken)) in reprint (c .before .before .before .before .before .before .before .before .before .args .out .now) (c .before .before .print-sectors .last .1 .1 .0) (c .before .before .print-sectors .result) _ (frame-passes (c .before .before .before .before .before .before .before .before .before .args .frame .now) (c .before .before .before .before .before .before .check-frame .ensures ∙ ap refusalOf (c .before .before .before .before .before .if1 .taken)) ∙ ap (λ (s : ℕ). shown (called (c .before .before .before .before .before .before .before .before .before .args .frame .now) (replicate s 0))) (half-is (c .before .before .before .before .before .before .before .before .before .args .frame .now) (c .before .before .before .before .beside .result) (c .before .before .before .before .beside .ensures))) (omega arith) (c .before .before .print-sectors .ensures)
 
--- src/lib.rt:276:19
 slice-aggregate-show : tie.Need-slice-aggregate-show
 slice-aggregate-show c = search needs
 
--- src/lib.rt:276:5
 show-requires : tie.Need-show-requires
 show-requires c κs = search needs
 
--- src/lib.rt:267:1
 same-length-2 : tie.Need-same-length-2
 same-length-2 c = search needs
 
--- src/lib.rt:267:1
 returns-2 : tie.Need-returns-2
-returns-2 c = ?
+returns-2 c = reprint (c .before .before .before .before .before .before .before .before .before .args .out .now) (c .before .before .show .last .1 .1 .0) (c .before .before .show .result) _ (frame-refused (c .before .before .before .before .before .before .before .before .before .args .frame .now) (c .before .before .before .before .before .before .check-frame .result) (c .before .before .before .before .before .before .check-frame .ensures) (c .before .before .before .before .before .if1 .left)) (omega arith) (c .before .before .show .ensures)
 
 pub print-frame-spec : {M : Type 1} → statement M
 print-frame-spec =

@@ -1,51 +1,42 @@
+use mathlib.Core.Path.{ap, _∙_}
+use native.Mathlib.Omega.{arith}
+use lib.ListN.{length}
+use Rattle.frame.specs.Inner.{refusalOf}
+use Rattle.frame.proofs.Frames.{reprint}
+use Rattle.frame.proofs.Refusals.{line-refused, half-within, frame-long, frame-room}
 use borrow.Author.Needs.{needs}
 use Rattle.frame.proofs.print_line.Statement.{statement}
 use Rattle.frame.proofs.print_line.Tie as tie
-use Rattle.frame.proofs.print_line.Reads as reads
-use Rattle.frame.proofs.print_line.Lts as lts
-use Rattle.frame.proofs.check_length.Reads as check-length-reads
-use Rattle.frame.proofs.print_decoded.Reads as print-decoded-reads
-use Rattle.frame.proofs.show.Reads as show-reads
 
--- src/lib.rt:295:9
 check-length-requires : tie.Need-check-length-requires
 check-length-requires c κs = search needs
 
--- src/lib.rt:299:36
 array-borrow-prefix-frame : tie.Need-array-borrow-prefix-frame
-array-borrow-prefix-frame c = ?
+array-borrow-prefix-frame c = half-within (c .before .before .before .before .args .line .now) (c .before .check-length .ensures ∙ ap refusalOf (c .if1 .taken))
 
--- src/lib.rt:299:36
 slice-aggregate-print-decoded : tie.Need-slice-aggregate-print-decoded
-slice-aggregate-print-decoded c = ?
+slice-aggregate-print-decoded c = frame-long (c .before .before .before .before .before .args .line .now) (c .before .before .check-length .ensures ∙ ap refusalOf (c .before .if1 .taken))
 
--- src/lib.rt:299:9
 print-decoded-requires : tie.Need-print-decoded-requires
-print-decoded-requires c κs = ?
+print-decoded-requires c κs = frame-room (c .before .before .before .before .before .before .args .line .now) (c .before .before .before .check-length .ensures ∙ ap refusalOf (c .before .before .if1 .taken)) (length (c .before .before .before .before .before .before .args .out .now)) (c .before .before .before .before .before .before .pre)
 
--- src/lib.rt:299:9
 same-length : tie.Need-same-length
 same-length c = search needs
 
--- src/lib.rt:299:9
 returns : tie.Need-returns
 returns c = search needs
 
--- src/lib.rt:301:19
 slice-aggregate-show : tie.Need-slice-aggregate-show
 slice-aggregate-show c = search needs
 
--- src/lib.rt:301:5
 show-requires : tie.Need-show-requires
 show-requires c κs = search needs
 
--- src/lib.rt:291:1
 same-length-2 : tie.Need-same-length-2
 same-length-2 c = search needs
 
--- src/lib.rt:291:1
 returns-2 : tie.Need-returns-2
-returns-2 c = ?
+returns-2 c = reprint (c .before .before .before .before .before .before .before .before .before .args .out .now) (c .before .before .show .last .1 .1 .0) (c .before .before .show .result) _ (line-refused (c .before .before .before .before .before .before .before .before .before .args .line .now) (c .before .before .before .before .before .before .check-length .result) (c .before .before .before .before .before .before .check-length .ensures) (c .before .before .before .before .before .if1 .left)) (omega arith) (c .before .before .show .ensures)
 
 pub print-line-spec : {M : Type 1} → statement M
 print-line-spec =

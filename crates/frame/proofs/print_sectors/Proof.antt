@@ -1,7 +1,6 @@
-use mathlib.Core.Path.{sym, ap, _∙_}
 use native.Mathlib.Omega.{arith}
-use lib.ListN.{length, length-take, length-replicate}
-use Rattle.frame.proofs.Frames.{zeros-are, reprint}
+use lib.ListN.{length, length-take}
+use Rattle.frame.proofs.Frames.{room-fits, room-printed}
 use borrow.Author.Needs.{needs}
 use Rattle.frame.proofs.print_sectors.Statement.{statement}
 use Rattle.frame.proofs.print_sectors.Tie as tie
@@ -13,13 +12,13 @@ slice-aggregate-print-answer : tie.Need-slice-aggregate-print-answer
 slice-aggregate-print-answer c = simp length-take (omega arith)
 
 print-answer-requires : tie.Need-print-answer-requires
-print-answer-requires c κs = ?
+print-answer-requires c κs = room-fits (c .before .before .before .before .args .frame .now) (c .before .before .before .before .args .s) (c .before .before .before .before .pre .1) (length (c .before .before .before .before .args .out .now)) (c .before .before .before .before .pre .0) (c .before .before .before .before .pre .2)
 
 same-length : tie.Need-same-length
 same-length c = search needs
 
 returns : tie.Need-returns
-returns c = ?
+returns c = room-printed (c .before .before .before .before .before .before .before .before .args .frame .now) (c .before .before .before .before .before .before .before .before .args .s) (c .before .before .before .before .before .before .before .before .pre .1) (c .before .before .before .before .before .before .before .before .args .out .now) (c .before .before .before .print-answer .last .1 .1 .0) (c .before .before .before .print-answer .result) (c .before .before .before .print-answer .ensures)
 
 pub print-sectors-spec : {M : Type 1} → statement M
 print-sectors-spec =
