@@ -8,7 +8,7 @@ use native.Mathlib.Omega.{arith}
 use lib.Dec.{leb}
 use lib.ListN.{length, take, drop, getD, set, length-set, drop-of-length-le}
 use lib.Seq.{drop-cons}
-use borrow.Author.Tests.{leb-true, leb-false, le-leb, lt-leb}
+use borrow.Author.Tests.{leb-true, le-leb, lt-leb}
 use Rattle.block.proofs.Lists.{clash, and-both, fill-turn, fill-end}
 use Rattle.frame.specs.Frame.{between, isDigit, digitValue, allDigits, decode, digit, encode}
 
@@ -152,9 +152,10 @@ module _ (line d f : List ℕ) (i : ℕ) (long : length line ≡ 2 * length d) (
 
   pub decoding-end : length f ≤ i → (true ≡ allDigits line) × (f ≡ decode line)
   unfolding allDigits
-  decoding-end h =
-      (sym (ap allDigits (drop-of-length-le line {i = 2 * i} (omega arith))) ∙ I .digits,
-      I .bytes ∙ fill-end (decode line) d i (omega (arith, length-decode line)) (omega arith))
+  decoding-end h = (
+    sym (ap allDigits (drop-of-length-le line {i = 2 * i} (omega arith))) ∙ I .digits,
+    I .bytes ∙ fill-end (decode line) d i (omega (arith, length-decode line)) (omega arith),
+  )
 
 -- ---- the digits of bytes
 

@@ -1,15 +1,15 @@
 -- The parts of a frame that are lent to Judge and Combine, and what is printed of their answers. Assumes nothing.
-use mathlib.Core.Path.{_≡_, refl, sym, ap, _∙_, subst}
-use mathlib.Core.Bool.{Bool, true, false, cond}
-use mathlib.Core.List.{List, [], _∷_, _++_}
-use Prim.Native.Nat.{ℕ, zero, suc, _+_, _*_, _-_, _≤_}
-use native.Mathlib.Nat.{le-of-suc-le-suc, le-trans, le-of-eq}
+use mathlib.Core.Path.{_≡_, sym, ap, _∙_, subst}
+use mathlib.Core.Bool.{true, false, cond}
+use mathlib.Core.List.{List, [], _++_}
+use Prim.Native.Nat.{ℕ, _+_, _*_, _-_, _≤_}
+use native.Mathlib.Nat.{le-trans, le-of-eq}
 use native.Mathlib.Omega.{arith}
-use lib.Dec.{eqb}
 use lib.ListN.{length, take, drop, replicate, length-replicate}
 use borrow.Author.Tests.{eq-eqb, ne-eqb}
 use borrow.Rule.Slice.PartMut.{midOf}
 use Rattle.block.specs.Bytes.{fromBytes}
+use Rattle.block.proofs.Lists.{take-zeros}
 use Rattle.sector.specs.Calls.{key, triple, judgeCall, combineCall}
 use Rattle.frame.specs.Frame.{between, kind, beside, field, judged, combined, called, printed, shown}
 use Rattle.frame.specs.Inner.{Prints, Sectors}
@@ -70,11 +70,6 @@ module _ {x : ℕ × List ℕ} {n : ℕ} {o : List ℕ} (e : x ≡ (n, o)) where
   shown-plain h = ap shown e ∙ ap (λ b. printed n (cond b [] o)) h
 
 -- ---- the room for a plaintext
-
-take-zeros : (s n : ℕ) → s ≤ n → take {A = ℕ} s (replicate n 0) ≡ replicate s 0
-take-zeros zero n h = refl
-take-zeros (suc s) zero h = absurd (omega arith)
-take-zeros (suc s) (suc n) h = ap (λ (l : List ℕ). 0 ∷ l) (take-zeros s n (le-of-suc-le-suc h))
 
 module _ (f : List ℕ) (s : ℕ) (h : s ≤ 4096) where
   abbrev room : List ℕ

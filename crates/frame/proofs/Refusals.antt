@@ -12,7 +12,7 @@ use lib.Seq.{length-take-le}
 use borrow.Author.Tests.{eqb-true, eqb-false, leb-true, leb-false}
 use Rattle.block.proofs.Lists.{and-left, and-right}
 use Rattle.mode.specs.Scheme.{isSize}
-use Rattle.sector.specs.Answers.{Rule, rule, firstOf, settle}
+use Rattle.sector.specs.Answers.{Rule, rule, firstOf}
 use Rattle.sector.proofs.Checks.{first-none, first-some, none-left, none-right}
 use Rattle.sector.proofs.Public.{settle-some, settle-none}
 use Rattle.frame.specs.Frame.{between, kind, beside, together, half, called, kindRules, sectorRules, lengthRules, allDigits, decode, frameAnswer, lineAnswer, printed, shown, printLine}
@@ -34,9 +34,10 @@ unfolding isSize
 sectors-even n e = go (eqb (n % 2) 0) (isSize (n / 2)) refl refl e
   where
     go : (b d : Bool) → eqb (n % 2) 0 ≡ b → isSize (n / 2) ≡ d → firstOf (rule 3 (not b) ∷ rule 2 (not d) ∷ []) ≡ none → (n % 2 ≡ 0) × (n / 2 ≤ 4096)
-    go true true p q k =
-        (eqb-true (n % 2) 0 p,
-        leb-true (n / 2) 4096 (and-left (leb (n / 2) 4096) (eqb (n / 2 % 16) 0) (and-right (leb 16 (n / 2)) (leb (n / 2) 4096 && eqb (n / 2 % 16) 0) q)))
+    go true true p q k = (
+      eqb-true (n % 2) 0 p,
+      leb-true (n / 2) 4096 (and-left (leb (n / 2) 4096) (eqb (n / 2 % 16) 0) (and-right (leb 16 (n / 2)) (leb (n / 2) 4096 && eqb (n / 2 % 16) 0) q)),
+    )
     go true false p q k = absurd (let z : _≡_ {A = ℕ} 0 1 = cc in omega arith)
     go false d p q k = absurd (let z : _≡_ {A = ℕ} 0 1 = cc in omega arith)
 
