@@ -149,6 +149,12 @@ bytes-zeros : (n : ℕ) → Bytes (replicate n 0)
 bytes-zeros zero = tt
 bytes-zeros (suc n) = (lit< tt, bytes-zeros n)
 
+-- the front of a list of zeros
+pub take-zeros : (s n : ℕ) → s ≤ n → take {A = ℕ} s (replicate n 0) ≡ replicate s 0
+take-zeros zero n h = refl
+take-zeros (suc s) zero h = absurd (omega arith)
+take-zeros (suc s) (suc n) h = ap (λ (l : List ℕ). 0 ∷ l) (take-zeros s n (omega arith))
+
 pub plain-zeros : (s : ℕ) → Plain s (replicate s 0)
 plain-zeros s = record { long = length-replicate s 0; bytes = bytes-zeros s }
 

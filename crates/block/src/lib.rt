@@ -116,7 +116,7 @@ fn widen(x: u8) -> u64
 }
 
 // The eight bytes from `at` on as a number. Written out, it compiles to one load.
-fn load_word(b: &[u8], at: usize) -> u64
+pub fn load_word(b: &[u8], at: usize) -> u64
     requires { ⌜ at + 8 ≤ length (now b) ⌝ }
     ensures { λ r. ⌜ r ≡ fromBytes (take 8 (drop at (now (b .entry)))) ⌝ }
 {

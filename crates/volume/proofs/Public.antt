@@ -3,14 +3,13 @@ use mathlib.Core.Path.{_≡_, refl, sym, ap, ap₂, _∙_, subst}
 use mathlib.Core.Bool.{Bool, true, false, not, _&&_}
 use mathlib.Core.List.{List, [], _∷_}
 use mathlib.Core.Option.{Option, none, some}
-use Prim.Native.Nat.{ℕ, zero, suc, _≤_}
-use native.Mathlib.Nat.{le-of-suc-le-suc}
+use Prim.Native.Nat.{ℕ, _≤_}
 use native.Mathlib.Omega.{arith}
 use lib.Dec.{leb}
 use lib.ListN.{length, take, replicate, length-take, length-replicate}
 use borrow.Author.Tests.{leb-true}
 use Rattle.block.specs.Bytes.{patch}
-use Rattle.block.proofs.Lists.{and-left, and-right}
+use Rattle.block.proofs.Lists.{and-left, and-right, take-zeros}
 use Rattle.block.proofs.Parts.{part-end}
 use Rattle.mode.specs.Scheme.{local, tag, remote, on, Scheme}
 use Rattle.mode.specs.Sealing.{Triple}
@@ -53,11 +52,6 @@ pub within-length : (v : Triple) (a : Args) (c : Call) (p : ℕ) → p ≡ a .si
     → (length (a .key .bytes) ≡ 32) × Within p (a .number) (length (v .local)) (length (v .tag)) (length (v .remote))
 within-length v a c p d e =
     let w = within v a c e in (w .0, subst (λ (n : ℕ). Within n (a .number) (length (v .local)) (length (v .tag)) (length (v .remote))) (sym d) (w .1))
-
-take-zeros : (s n : ℕ) → s ≤ n → take {A = ℕ} s (replicate n 0) ≡ replicate s 0
-take-zeros zero n h = refl
-take-zeros (suc s) zero h = absurd (omega arith)
-take-zeros (suc s) (suc n) h = ap (λ (l : List ℕ). 0 ∷ l) (take-zeros s n (le-of-suc-le-suc h))
 
 pub prefix-size : (s x : ℕ) → s ≤ 4096 → length (take {A = ℕ} s (replicate 4096 x)) ≡ s
 prefix-size s x h = simp (length-take, length-replicate) (omega arith)

@@ -1,0 +1,89 @@
+-- The parts of a frame that are lent to Judge and Combine, and what is printed of their answers. Assumes nothing.
+use mathlib.Core.Path.{_≡_, sym, ap, _∙_, subst}
+use mathlib.Core.Bool.{true, false, cond}
+use mathlib.Core.List.{List, [], _++_}
+use Prim.Native.Nat.{ℕ, _+_, _*_, _-_, _≤_}
+use native.Mathlib.Nat.{le-trans, le-of-eq}
+use native.Mathlib.Omega.{arith}
+use lib.ListN.{length, take, drop, replicate, length-replicate}
+use borrow.Author.Tests.{eq-eqb, ne-eqb}
+use borrow.Rule.Slice.PartMut.{midOf}
+use Rattle.block.specs.Bytes.{fromBytes}
+use Rattle.block.proofs.Lists.{take-zeros}
+use Rattle.verdict.specs.Judging.{key, triple}
+use Rattle.sector.specs.Calls.{judgeCall, combineCall}
+use Rattle.frame.specs.Frame.{between, kind, beside, field, judged, combined, called, printed, shown}
+use Rattle.frame.specs.Inner.{Prints, Sectors}
+
+-- ---- the calls
+
+module _ (f out : List ℕ) where
+  abbrev s : ℕ
+  s = length out
+
+  pub judged-is : (address : ℕ) {n m : ℕ} {o : List ℕ} → length f ≡ 57 + 2 * s → address ≡ fromBytes (field 33 8 f)
+      → judgeCall (key (midOf 1 (33 - 1) f)) address (triple (midOf 41 (41 + s - 41) f) (midOf (41 + s) (57 + s - (41 + s)) f) (midOf (57 + s) (length f - (57 + s)) f)) out ≡ (m, o)
+      → n ≡ m → judged f out ≡ (n, o)
+  unfolding judged
+  judged-is address {n} {m} {o} h ea e d =
+      let p : s ≡ 41 + s - 41 = omega arith in
+      let q : 16 ≡ 57 + s - (41 + s) = omega arith in
+      let r : s ≡ length f - (57 + s) = omega arith in
+      (λ i. judgeCall (key (field 1 32 f)) (sym ea i) (triple (field 41 (p i) f) (field (41 + s) (q i) f) (field (57 + s) (r i) f)) out)
+      ∙ e ∙ ap (λ (k : ℕ). (k, o)) (sym d)
+
+  pub combined-is : {n m : ℕ} {o : List ℕ} → length f ≡ 1 + 2 * s
+      → combineCall (midOf 1 (1 + s - 1) f) (midOf (1 + s) (length f - (1 + s)) f) out ≡ (m, o) → n ≡ m → combined f out ≡ (n, o)
+  unfolding combined
+  combined-is {n} {m} {o} h e d =
+      let p : s ≡ 1 + s - 1 = omega arith in
+      let q : s ≡ length f - (1 + s) = omega arith in
+      (λ i. combineCall (field 1 (p i) f) (field (1 + s) (q i) f) out) ∙ e ∙ ap (λ (k : ℕ). (k, o)) (sym d)
+
+  pub called-judged : kind f ≡ 1 → called f out ≡ judged f out
+  unfolding called
+  called-judged h = ap (λ b. cond b (judged f out) (combined f out)) (eq-eqb (kind f) 1 h)
+
+  pub called-combined : (kind f ≡ 1 → ⊥) → called f out ≡ combined f out
+  unfolding called
+  called-combined h = ap (λ b. cond b (judged f out) (combined f out)) (ne-eqb (kind f) 1 h)
+
+pub beside-one : (f : List ℕ) → kind f ≡ 1 → beside f ≡ 57
+unfolding beside
+beside-one f h = ap (λ b. cond b 57 1) (eq-eqb (kind f) 1 h)
+
+pub beside-other : (f : List ℕ) → (kind f ≡ 1 → ⊥) → beside f ≡ 1
+unfolding beside
+beside-other f h = ap (λ b. cond b 57 1) (ne-eqb (kind f) 1 h)
+
+-- ---- what is printed
+
+pub reprint : {text same : List ℕ} (before after : List ℕ) (r m : ℕ) {k : ℕ} → text ≡ same → k ≤ m → Prints same before after r k → Prints text before after r m
+reprint before after r m e h p = (p .0 ∙ ap (λ (t : List ℕ). t ++ drop r before) (sym e), p .1 ∙ ap length (sym e), le-trans (p .2) h)
+
+module _ {x : ℕ × List ℕ} {n : ℕ} {o : List ℕ} (e : x ≡ (n, o)) where
+  pub shown-refusal : between 1 12 n ≡ true → shown x ≡ printed n []
+  unfolding shown
+  shown-refusal h = ap shown e ∙ ap (λ b. printed n (cond b [] o)) h
+
+  pub shown-plain : between 1 12 n ≡ false → shown x ≡ printed n o
+  unfolding shown
+  shown-plain h = ap shown e ∙ ap (λ b. printed n (cond b [] o)) h
+
+-- ---- the room for a plaintext
+
+module _ (f : List ℕ) (s : ℕ) (h : s ≤ 4096) where
+  abbrev room : List ℕ
+  room = take {A = ℕ} s (replicate 4096 0)
+
+  room-long : length room ≡ s
+  room-long = ap length (take-zeros s 4096 h) ∙ length-replicate s 0
+
+  pub room-fits : (n : ℕ) → Sectors s f → 2 * s + 3 ≤ n → Sectors (length room) f × (2 * length room + 3 ≤ n)
+  room-fits n p q = subst (λ (k : ℕ). Sectors k f × (2 * k + 3 ≤ n)) (sym room-long) (p, q)
+
+  pub room-printed : (before after : List ℕ) (r : ℕ) → Prints (shown (called f room)) before after r (2 * length room + 3)
+      → Prints (shown (called f (replicate s 0))) before after r (2 * s + 3)
+  room-printed before after r p =
+      reprint before after r (2 * s + 3) (ap (λ (l : List ℕ). shown (called f l)) (sym (take-zeros s 4096 h)))
+      (le-of-eq (ap (λ (k : ℕ). 2 * k + 3) room-long)) p

@@ -1,0 +1,53 @@
+use Rattle.frame.proofs.Frames.{combined-is}
+use borrow.Author.Needs.{needs}
+use Rattle.frame.proofs.combine_frame.Statement.{statement}
+use Rattle.frame.proofs.combine_frame.Tie as tie
+
+add-remote : tie.Need-add-remote
+add-remote c = search needs
+
+sub-combine : tie.Need-sub-combine
+sub-combine c = search needs
+
+part-combine-start : tie.Need-part-combine-start
+part-combine-start c = search needs
+
+part-combine-end : tie.Need-part-combine-end
+part-combine-end c = search needs
+
+sub-combine-2 : tie.Need-sub-combine-2
+sub-combine-2 c = search needs
+
+part-combine-start-2 : tie.Need-part-combine-start-2
+part-combine-start-2 c = search needs
+
+part-combine-end-2 : tie.Need-part-combine-end-2
+part-combine-end-2 c = search needs
+
+combine-requires : tie.Need-combine-requires
+combine-requires c κs = search needs
+
+done-number-requires : tie.Need-done-number-requires
+done-number-requires c κs = search needs
+
+same-length : tie.Need-same-length
+same-length c = search needs
+
+returns : tie.Need-returns
+returns c = combined-is (c .before .before .before .before .before .before .before .before .before .args .frame .now) (c .before .before .before .before .before .before .before .before .before .args .plain .now) (c .before .before .before .before .before .before .before .before .before .pre) (c .before .before .before .combine .ensures) (c .done-number .ensures)
+
+pub combine-frame-spec : {M : Type 1} → statement M
+combine-frame-spec =
+    tie.close
+    (tie.spec
+    add-remote
+    sub-combine
+    part-combine-start
+    part-combine-end
+    sub-combine-2
+    part-combine-start-2
+    part-combine-end-2
+    combine-requires
+    done-number-requires
+    same-length
+    returns)

@@ -1,0 +1,55 @@
+use mathlib.Core.Path.{sym, ap, _∙_}
+use mathlib.Core.List.{List}
+use Prim.Native.Nat.{ℕ}
+use native.Mathlib.Omega.{arith}
+use Rattle.frame.specs.Frame.{frameAnswer, shown}
+use Rattle.frame.proofs.Frames.{reprint}
+use Rattle.frame.proofs.Refusals.{digits-pass, digits-refused}
+use borrow.Author.Needs.{needs}
+use Rattle.frame.proofs.print_decoded.Statement.{statement}
+use Rattle.frame.proofs.print_decoded.Tie as tie
+
+decode-requires : tie.Need-decode-requires
+decode-requires c κs = search needs
+
+print-frame-requires : tie.Need-print-frame-requires
+print-frame-requires c κs = search needs
+
+same-length : tie.Need-same-length
+same-length c = search needs
+
+same-length-2 : tie.Need-same-length-2
+same-length-2 c = search needs
+
+returns : tie.Need-returns
+returns c = reprint (c .before .before .before .before .before .before .before .before .before .before .before .before .before .args .out .now) (c .before .before .print-frame .last .1 .0) (c .before .before .print-frame .result) _ (digits-pass (c .before .before .before .before .before .before .before .before .before .before .before .before .before .args .line .now) (c .before .before .before .before .before .before .before .before .before .before .before .before .before .pre .0) (sym (c .before .before .before .before .before .before .before .before .decode .ensures .0) ∙ c .before .before .before .before .before .if1 .taken) ∙ ap (λ (f : List ℕ). shown (frameAnswer f)) (sym (c .before .before .before .before .before .before .before .before .decode .ensures .1 (c .before .before .before .before .before .if1 .taken)))) (omega arith) (c .before .before .print-frame .ensures)
+
+slice-aggregate-show : tie.Need-slice-aggregate-show
+slice-aggregate-show c = search needs
+
+show-requires : tie.Need-show-requires
+show-requires c κs = search needs
+
+same-length-3 : tie.Need-same-length-3
+same-length-3 c = search needs
+
+same-length-4 : tie.Need-same-length-4
+same-length-4 c = search needs
+
+returns-2 : tie.Need-returns-2
+returns-2 c = reprint (c .before .before .before .before .before .before .before .before .before .before .before .before .before .args .out .now) (c .before .before .show .last .1 .1 .0) (c .before .before .show .result) _ (digits-refused (c .before .before .before .before .before .before .before .before .before .before .before .before .before .args .line .now) (c .before .before .before .before .before .before .before .before .before .before .before .before .before .pre .0) (sym (c .before .before .before .before .before .before .before .before .decode .ensures .0) ∙ c .before .before .before .before .before .if1 .left)) (omega arith) (c .before .before .show .ensures)
+
+pub print-decoded-spec : {M : Type 1} → statement M
+print-decoded-spec =
+    tie.close
+    (tie.spec
+    decode-requires
+    print-frame-requires
+    same-length
+    same-length-2
+    returns
+    slice-aggregate-show
+    show-requires
+    same-length-3
+    same-length-4
+    returns-2)

@@ -1,0 +1,3 @@
+pub mod Frame
+pub mod Inner
+pub mod Lines
