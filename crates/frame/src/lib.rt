@@ -81,7 +81,7 @@ pub fn feed(buffer: &[u8], line: &mut [u8], used: usize, out: &mut [u8]) -> Fed
         at = end + 1;
         end = line_end(buffer, at);
     }
-    let last = hold(&buffer[at..], line, size);
+    let last = hold(&buffer[at..end], line, size);
     Fed {
         used: last,
         printed,

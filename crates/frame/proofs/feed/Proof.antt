@@ -1,88 +1,106 @@
+-- `feed` meets its contract. The loop's invariant is `SoFar`: what is printed, and what feeding the rest gives, is what feeding the whole
+-- buffer gives. The measure is what is left of the buffer. Assumes nothing.
+use mathlib.Core.Path.{sym, ap, _∙_}
+use Prim.Native.Nat.{ℕ, _-_, _≤_}
+use native.Mathlib.Omega.{arith}
+use lib.ListN.{length, length-take, length-drop}
+use lib.Seq.{length-take-le}
+use borrow.Author.Needs.{needs}
+use Rattle.frame.proofs.Stretches.{SoFar, so-far-none, so-far-next, rest-is, text-is, out-is}
 use Rattle.frame.proofs.feed.Statement.{statement}
 use Rattle.frame.proofs.feed.Tie as tie
-use Rattle.frame.proofs.feed.Reads as reads
-use Rattle.frame.proofs.feed.Lts as lts
-use Rattle.frame.proofs.hold.Reads as hold-reads
-use Rattle.frame.proofs.line_end.Reads as line-end-reads
-use Rattle.frame.proofs.print_held.Reads as print-held-reads
 
 abbrev Inv-loop : tie.InvT-loop
-Inv-loop buffer line₀ used out₀ at₀ size₀ printed₀ end₀ line out at size printed end = ?
+Inv-loop buffer line₀ used out₀ at₀ size₀ printed₀ end₀ line out at size printed end = SoFar buffer line₀ used out₀ at end size printed line out
 
 abbrev μ-loop : tie.MeasureT-loop
-μ-loop buffer line₀ used out₀ at₀ size₀ printed₀ end₀ line out at size printed end = ?
+μ-loop buffer line₀ used out₀ at₀ size₀ printed₀ end₀ line out at size printed end = length buffer - end
 
--- src/lib.rt:74:9
 line-end-requires : tie.Need-line-end-requires Inv-loop μ-loop
-line-end-requires c κs = ?
+line-end-requires c κs = search needs
 
--- src/lib.rt:75:5
 loop-holds : tie.Need-loop-holds Inv-loop μ-loop
-loop-holds c = ?
+loop-holds c = 
+    let a = c .before .before .before .before .args in
+    let h = c .before .before .before .before .pre in
+    so-far-none (a .buffer .now) (a .line .now) (a .used) (a .out .now) (c .line-end .result) (h .0) (h .1) (c .line-end .ensures .0) (c .line-end .ensures .1)
 
--- src/lib.rt:76:22
 sub-hold : tie.Need-sub-hold Inv-loop μ-loop
-sub-hold c = ?
+sub-hold c = let e = c .before .loop .inv .ends in omega arith
 
--- src/lib.rt:76:22
 part-hold-start : tie.Need-part-hold-start Inv-loop μ-loop
-part-hold-start c = ?
+part-hold-start c = let e = c .before .loop .inv .ends in search needs
 
--- src/lib.rt:76:22
 part-hold-end : tie.Need-part-hold-end Inv-loop μ-loop
-part-hold-end c = ?
+part-hold-end c = let e = c .before .loop .inv .within in search needs
 
--- src/lib.rt:76:13
 hold-requires : tie.Need-hold-requires Inv-loop μ-loop
-hold-requires c κs = ?
+hold-requires c κs = (c .before .before .before .loop .inv .line-long, c .before .before .before .loop .inv .most)
 
--- src/lib.rt:77:9
 print-held-requires : tie.Need-print-held-requires Inv-loop μ-loop
-print-held-requires c κs = ?
+print-held-requires c κs = 
+    let l = c .before .before .before .before .before .before .before .before .loop in
+    let few = simp (length-take, length-drop) at (c .before .before .before .before .hold .ensures .2) in
+    let same = c .before .before .before .before .hold .kept .1 .0 in
+    let v = l .inv in
+    let p = c .before .before .before .before .before .before .before .before .before .before .before .before .before .pre in
+    (omega arith, omega arith)
 
--- src/lib.rt:79:14
 add-at : tie.Need-add-at Inv-loop μ-loop
-add-at c = ?
+add-at c = omega arith
 
--- src/lib.rt:80:9
 line-end-requires-2 : tie.Need-line-end-requires-2 Inv-loop μ-loop
-line-end-requires-2 c κs = ?
+line-end-requires-2 c κs = omega arith
 
--- src/lib.rt:75:5
 loop-less : tie.Need-loop-less Inv-loop μ-loop
-loop-less c = ?
+loop-less c = omega arith
 
--- src/lib.rt:75:5
 loop-again : tie.Need-loop-again Inv-loop μ-loop
-loop-again c = ?
+loop-again c = 
+    let a = c .before .before .before .before .before .before .before .before .before .before .before .before .before .before .before .before .before .args in
+    let l = c .before .before .before .before .before .before .before .before .before .before .before .before .loop in
+    let o = c .before .before .before .before .before .before .before .before .hold in
+    let p = c .before .before .before .print-held in
+    let part = simp (length-take, length-drop) at (o .ensures .2) in
+    let v = l .inv in
+    let h = c .before .before .before .before .before .before .before .before .before .before .before .before .before .before .before .before .before .pre in
+    so-far-next (a .buffer .now) (a .line .now) (a .used) (a .out .now) (l .at) (l .end) (l .size) (l .printed) (l .line) (l .out) (l .inv) (o .result) _ (o .ensures .0) (omega arith)
+    (p .result) _ (c .line-end2 .result) (o .kept .1 .0 ∙ v .line-long) (omega arith) (p .kept .1 .1 .0) (p .ensures .0) (p .ensures .1) (p .ensures .2) (omega arith) (c .line-end2 .ensures .0) (c .line-end2 .ensures .1)
 
--- src/lib.rt:82:21
 sub-hold-2 : tie.Need-sub-hold-2 Inv-loop μ-loop
-sub-hold-2 c = ?
+sub-hold-2 c = let e = c .before .loop .inv .ends in omega arith
 
--- src/lib.rt:82:21
 part-hold-start-2 : tie.Need-part-hold-start-2 Inv-loop μ-loop
-part-hold-start-2 c = ?
+part-hold-start-2 c = let e = c .before .loop .inv .ends in search needs
 
--- src/lib.rt:82:21
 part-hold-end-2 : tie.Need-part-hold-end-2 Inv-loop μ-loop
-part-hold-end-2 c = ?
+part-hold-end-2 c = let e = c .before .loop .inv .within in search needs
 
--- src/lib.rt:82:9
 hold-requires-2 : tie.Need-hold-requires-2 Inv-loop μ-loop
-hold-requires-2 c κs = ?
+hold-requires-2 c κs = (c .before .before .before .loop .inv .line-long, c .before .before .before .loop .inv .most)
 
--- src/lib.rt:67:1
 same-length : tie.Need-same-length Inv-loop μ-loop
-same-length c = ?
+same-length c = let v = c .before .before .before .before .before .before .loop .inv .line-long in let h = c .before .before .before .before .before .before .before .before .before .before .before .pre in c .before .before .hold2 .kept .1 .0 ∙ v ∙ sym (h .0)
 
--- src/lib.rt:67:1
 same-length-2 : tie.Need-same-length-2 Inv-loop μ-loop
-same-length-2 c = ?
+same-length-2 c = c .before .before .before .before .before .before .loop .inv .out-long
 
--- src/lib.rt:67:1
 returns : tie.Need-returns Inv-loop μ-loop
-returns c = ?
+returns c = 
+    let a = c .before .before .before .before .before .before .before .before .before .before .before .args in
+    let l = c .before .before .before .before .before .before .loop in
+    let o = c .before .before .hold2 in
+    let v = l .inv in
+    let h = c .before .before .before .before .before .before .before .before .before .before .before .pre in
+    let e : length (a .buffer .now) ≤ l .end = omega arith in
+    let text = text-is (a .buffer .now) (a .line .now) (a .used) (a .out .now) (l .at) (l .end) (l .size) (l .printed) (l .line) (l .out) v (o .result) _ (o .ensures .0) e in
+    let most : l .printed ≤ length (l .out) = omega arith in (
+      rest-is (a .buffer .now) (a .line .now) (a .used) (a .out .now) (l .at) (l .end) (l .size) (l .printed) (l .line) (l .out) v (o .result) _ (o .ensures .0) e,
+      out-is (a .buffer .now) (a .line .now) (a .used) (a .out .now) (l .at) (l .end) (l .size) (l .printed) (l .line) (l .out) v (o .result) _ (o .ensures .0) e,
+      sym (length-take-le (l .printed) (l .out) most) ∙ ap length text,
+      o .ensures .1,
+      omega arith,
+    )
 
 pub feed-spec : {M : Type 1} → statement M
 feed-spec =
