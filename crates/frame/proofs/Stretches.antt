@@ -123,57 +123,58 @@ module _ (buffer line₀ : List ℕ) (u : ℕ) (out₀ : List ℕ) where
   so-far-none end long most ends within =
       record { line-long = long; out-long = refl; most = most; ends = ends; within = within; room = omega arith; whole = refl; behind = refl }
 
-  module _ (at end size printed : ℕ) (line out : List ℕ) (I : SoFar at end size printed line out) (n : ℕ) (line′ : List ℕ) (stored : take n line′ ≡ held (take size line ++ take (end - at) (drop at buffer))) where
-    -- the stretch is held
-    pub fed-held : fed (take size line) (drop at buffer) ≡ fed (take n line′) (drop end buffer)
-    fed-held =
+module _ {buffer line₀ : List ℕ} {u : ℕ} {out₀ : List ℕ} {at end size printed : ℕ} {line out : List ℕ} (I : SoFar buffer line₀ u out₀ at end size printed line out)
+    (n : ℕ) (line′ : List ℕ) (stored : take n line′ ≡ held (take size line ++ take (end - at) (drop at buffer))) where
+  -- the stretch is held
+  fed-held : fed (take size line) (drop at buffer) ≡ fed (take n line′) (drop end buffer)
+  fed-held =
+      let s : ℕ = stretch (drop at buffer) in
+      let e : s ≡ end - at = omega (arith, I .ends) in
+      fed-stretch (take size line) (drop at buffer) (simp length-take (omega (arith, I .most)))
+      ∙ ap₂ fed
+      (ap (λ (k : ℕ). held (take size line ++ take k (drop at buffer))) e ∙ sym stored)
+      (drop-drop s at buffer ∙ ap (λ (k : ℕ). drop k buffer) (sym (I .ends)))
+
+  module _ (lt : end < length buffer) where
+    feed-there : getD buffer end 0 ≡ 10
+    feed-there =
         let s : ℕ = stretch (drop at buffer) in
-        let e : s ≡ end - at = omega (arith, I .ends) in
-        fed-stretch (take size line) (drop at buffer) (simp length-take (omega (arith, I .most)))
-        ∙ ap₂ fed
-        (ap (λ (k : ℕ). held (take size line ++ take k (drop at buffer))) e ∙ sym stored)
-        (drop-drop s at buffer ∙ ap (λ (k : ℕ). drop k buffer) (sym (I .ends)))
+        ap (λ (k : ℕ). getD buffer k 0) (I .ends)
+        ∙ sym (getD-drop at buffer s 0)
+        ∙ stretch-at (drop at buffer) (simp length-drop (omega (arith, I .ends)))
 
-    module _ (lt : end < length buffer) where
-      feed-there : getD buffer end 0 ≡ 10
-      feed-there =
-          let s : ℕ = stretch (drop at buffer) in
-          ap (λ (k : ℕ). getD buffer k 0) (I .ends)
-          ∙ sym (getD-drop at buffer s 0)
-          ∙ stretch-at (drop at buffer) (simp length-drop (omega (arith, I .ends)))
+    -- the line is printed
+    fed-printed : fed (take size line) (drop at buffer) ≡ printing (printLine (take n line′)) (fed [] (drop (end + 1) buffer))
+    fed-printed =
+        fed-held
+        ∙ ap (fed (take n line′)) (drop-cons buffer end 0 lt)
+        ∙ fed-feed (take n line′) (getD buffer end 0) (drop (suc end) buffer) feed-there
+        ∙ ap (λ (k : ℕ). printing (printLine (take n line′)) (fed [] (drop k buffer))) (sym (add-one end))
 
-      -- the line is printed
-      fed-printed : fed (take size line) (drop at buffer) ≡ printing (printLine (take n line′)) (fed [] (drop (end + 1) buffer))
-      fed-printed =
-          fed-held
-          ∙ ap (fed (take n line′)) (drop-cons buffer end 0 lt)
-          ∙ fed-feed (take n line′) (getD buffer end 0) (drop (suc end) buffer) feed-there
-          ∙ ap (λ (k : ℕ). printing (printLine (take n line′)) (fed [] (drop k buffer))) (sym (add-one end))
-
-      pub so-far-next : (p : ℕ) (out′ : List ℕ) (end′ : ℕ) → length line′ ≡ 16499 → n ≤ size + (end - at) → length out′ ≡ length out
-          → out′ ≡ take printed out ++ (printLine (take n line′) ++ drop p out) → p ≡ printed + length (printLine (take n line′)) → p ≤ printed + n + 3
-          → printed ≤ length out → end′ ≡ end + 1 + stretch (drop (end + 1) buffer) → end′ ≤ length buffer
-          → SoFar (end + 1) end′ 0 p line′ out′
-      so-far-next p out′ end′ long few same put size-is fits h ends within =
-          let front : length (take printed out) ≡ printed = length-take-le printed out h in
-          let head : List ℕ = take printed out ++ printLine (take n line′) in
-          let head-long : length head ≡ p = simp length-append (omega arith) in
-          let put′ : out′ ≡ head ++ drop p out = put ∙ sym (append-assoc (take printed out) (printLine (take n line′)) (drop p out)) in
-          let text : take p out′ ≡ head = ap (take p) put′ ∙ take-at head (drop p out) p head-long in
-          let rest : Fed = fed [] (drop (end + 1) buffer) in
-          let j : ℕ = length (printLine (take n line′)) in
-          record {
-            line-long = long;
-            out-long = same ∙ I .out-long;
-            most = omega arith;
-            ends = ends;
-            within = within;
-            room = omega (arith, I .room, I .ends);
-            whole =
+    pub so-far-next : (p : ℕ) (out′ : List ℕ) (end′ : ℕ) → length line′ ≡ 16499 → n ≤ size + (end - at) → length out′ ≡ length out
+        → out′ ≡ take printed out ++ (printLine (take n line′) ++ drop p out) → p ≡ printed + length (printLine (take n line′)) → p ≤ printed + n + 3
+        → printed ≤ length out → end′ ≡ end + 1 + stretch (drop (end + 1) buffer) → end′ ≤ length buffer
+        → SoFar buffer line₀ u out₀ (end + 1) end′ 0 p line′ out′
+    so-far-next p out′ end′ long few same put size-is fits h ends within =
+        let front : length (take printed out) ≡ printed = length-take-le printed out h in
+        let head : List ℕ = take printed out ++ printLine (take n line′) in
+        let head-long : length head ≡ p = simp length-append (omega arith) in
+        let put′ : out′ ≡ head ++ drop p out = put ∙ sym (append-assoc (take printed out) (printLine (take n line′)) (drop p out)) in
+        let text : take p out′ ≡ head = ap (take p) put′ ∙ take-at head (drop p out) p head-long in
+        let rest : Fed = fed [] (drop (end + 1) buffer) in
+        let j : ℕ = length (printLine (take n line′)) in
+        record {
+          line-long = long;
+          out-long = same ∙ I .out-long;
+          most = omega arith;
+          ends = ends;
+          within = within;
+          room = omega (arith, I .room, I .ends);
+          whole =
               I .whole
               ∙ ap (printing (take printed out)) fed-printed
               ∙ ap {B = Fed} (λ (x : List ℕ). record { rest = rest .rest; printed = x }) (sym (append-assoc (take printed out) (printLine (take n line′)) (rest .printed)) ∙ ap (λ (x : List ℕ). x ++ rest .printed) (sym text));
-            behind =
+          behind =
               ap (drop p) put′
               ∙ drop-at head (drop p out) p head-long
               ∙ ap (λ (k : ℕ). drop k out) size-is
@@ -181,22 +182,23 @@ module _ (buffer line₀ : List ℕ) (u : ℕ) (out₀ : List ℕ) where
               ∙ ap (drop j) (I .behind)
               ∙ drop-drop j printed out₀
               ∙ ap (λ (k : ℕ). drop k out₀) (sym size-is);
-          }
+        }
 
-    -- no line feed is left
-    module _ (last : length buffer ≤ end) where
-      all-fed : fed (take u line₀) buffer ≡ record { rest = take n line′; printed = take printed out }
-      unfolding fed
-      all-fed =
-          I .whole
-          ∙ ap (printing (take printed out)) (fed-held ∙ ap (fed (take n line′)) (drop-of-length-le buffer last))
-          ∙ ap {B = Fed} (λ (x : List ℕ). record { rest = take n line′; printed = x }) (append-nil (take printed out))
+  -- no line feed is left
+  module _ (last : length buffer ≤ end) where
+    all-fed : fed (take u line₀) buffer ≡ record { rest = take n line′; printed = take printed out }
+    unfolding fed
+    all-fed =
+        I .whole
+        ∙ ap (printing (take printed out)) (fed-held ∙ ap (fed (take n line′)) (drop-of-length-le buffer last))
+        ∙ ap {B = Fed} (λ (x : List ℕ). record { rest = take n line′; printed = x }) (append-nil (take printed out))
 
-      pub rest-is : take n line′ ≡ fed (take u line₀) buffer .rest
-      rest-is = ap (λ (r : Fed). r .rest) (sym all-fed)
-
-      pub text-is : take printed out ≡ fed (take u line₀) buffer .printed
-      text-is = ap (λ (r : Fed). r .printed) (sym all-fed)
-
-      pub out-is : out ≡ fed (take u line₀) buffer .printed ++ drop printed out₀
-      out-is = sym (take-append-drop printed out) ∙ ap₂ _++_ text-is (I .behind)
+    pub fed-all : printed ≤ length out →
+        let r : Fed = fed (take u line₀) buffer in
+        (take n line′ ≡ r .rest) × (out ≡ r .printed ++ drop printed out₀) × (printed ≡ length (r .printed))
+    fed-all h =
+        let text : take printed out ≡ fed (take u line₀) buffer .printed = ap (λ (r : Fed). r .printed) (sym all-fed) in (
+          ap (λ (r : Fed). r .rest) (sym all-fed),
+          sym (take-append-drop printed out) ∙ ap₂ _++_ text (I .behind),
+          sym (length-take-le printed out h) ∙ ap length text,
+        )

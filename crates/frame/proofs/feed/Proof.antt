@@ -1,12 +1,11 @@
 -- `feed` meets its contract. The loop's invariant is `SoFar`: what is printed, and what feeding the rest gives, is what feeding the whole
 -- buffer gives. The measure is what is left of the buffer. Assumes nothing.
-use mathlib.Core.Path.{sym, ap, _∙_}
+use mathlib.Core.Path.{sym, _∙_}
 use Prim.Native.Nat.{ℕ, _-_, _≤_}
 use native.Mathlib.Omega.{arith}
 use lib.ListN.{length, length-take, length-drop}
-use lib.Seq.{length-take-le}
 use borrow.Author.Needs.{needs}
-use Rattle.frame.proofs.Stretches.{SoFar, so-far-none, so-far-next, rest-is, text-is, out-is}
+use Rattle.frame.proofs.Stretches.{SoFar, so-far-none, so-far-next, fed-all}
 use Rattle.frame.proofs.feed.Statement.{statement}
 use Rattle.frame.proofs.feed.Tie as tie
 
@@ -20,7 +19,7 @@ line-end-requires : tie.Need-line-end-requires Inv-loop μ-loop
 line-end-requires c κs = search needs
 
 loop-holds : tie.Need-loop-holds Inv-loop μ-loop
-loop-holds c = 
+loop-holds c =
     let a = c .before .before .before .before .args in
     let h = c .before .before .before .before .pre in
     so-far-none (a .buffer .now) (a .line .now) (a .used) (a .out .now) (c .line-end .result) (h .0) (h .1) (c .line-end .ensures .0) (c .line-end .ensures .1)
@@ -38,7 +37,7 @@ hold-requires : tie.Need-hold-requires Inv-loop μ-loop
 hold-requires c κs = (c .before .before .before .loop .inv .line-long, c .before .before .before .loop .inv .most)
 
 print-held-requires : tie.Need-print-held-requires Inv-loop μ-loop
-print-held-requires c κs = 
+print-held-requires c κs =
     let l = c .before .before .before .before .before .before .before .before .loop in
     let few = simp (length-take, length-drop) at (c .before .before .before .before .hold .ensures .2) in
     let same = c .before .before .before .before .hold .kept .1 .0 in
@@ -56,15 +55,14 @@ loop-less : tie.Need-loop-less Inv-loop μ-loop
 loop-less c = omega arith
 
 loop-again : tie.Need-loop-again Inv-loop μ-loop
-loop-again c = 
-    let a = c .before .before .before .before .before .before .before .before .before .before .before .before .before .before .before .before .before .args in
+loop-again c =
     let l = c .before .before .before .before .before .before .before .before .before .before .before .before .loop in
     let o = c .before .before .before .before .before .before .before .before .hold in
     let p = c .before .before .before .print-held in
     let part = simp (length-take, length-drop) at (o .ensures .2) in
     let v = l .inv in
     let h = c .before .before .before .before .before .before .before .before .before .before .before .before .before .before .before .before .before .pre in
-    so-far-next (a .buffer .now) (a .line .now) (a .used) (a .out .now) (l .at) (l .end) (l .size) (l .printed) (l .line) (l .out) (l .inv) (o .result) _ (o .ensures .0) (omega arith)
+    so-far-next v (o .result) _ (o .ensures .0) (omega arith)
     (p .result) _ (c .line-end2 .result) (o .kept .1 .0 ∙ v .line-long) (omega arith) (p .kept .1 .1 .0) (p .ensures .0) (p .ensures .1) (p .ensures .2) (omega arith) (c .line-end2 .ensures .0) (c .line-end2 .ensures .1)
 
 sub-hold-2 : tie.Need-sub-hold-2 Inv-loop μ-loop
@@ -86,21 +84,15 @@ same-length-2 : tie.Need-same-length-2 Inv-loop μ-loop
 same-length-2 c = c .before .before .before .before .before .before .loop .inv .out-long
 
 returns : tie.Need-returns Inv-loop μ-loop
-returns c = 
+returns c =
     let a = c .before .before .before .before .before .before .before .before .before .before .before .args in
     let l = c .before .before .before .before .before .before .loop in
     let o = c .before .before .hold2 in
     let v = l .inv in
     let h = c .before .before .before .before .before .before .before .before .before .before .before .pre in
     let e : length (a .buffer .now) ≤ l .end = omega arith in
-    let text = text-is (a .buffer .now) (a .line .now) (a .used) (a .out .now) (l .at) (l .end) (l .size) (l .printed) (l .line) (l .out) v (o .result) _ (o .ensures .0) e in
-    let most : l .printed ≤ length (l .out) = omega arith in (
-      rest-is (a .buffer .now) (a .line .now) (a .used) (a .out .now) (l .at) (l .end) (l .size) (l .printed) (l .line) (l .out) v (o .result) _ (o .ensures .0) e,
-      out-is (a .buffer .now) (a .line .now) (a .used) (a .out .now) (l .at) (l .end) (l .size) (l .printed) (l .line) (l .out) v (o .result) _ (o .ensures .0) e,
-      sym (length-take-le (l .printed) (l .out) most) ∙ ap length text,
-      o .ensures .1,
-      omega arith,
-    )
+    let r = fed-all v (o .result) _ (o .ensures .0) e (omega arith) in
+    (r .0, r .1, r .2, o .ensures .1, omega arith)
 
 pub feed-spec : {M : Type 1} → statement M
 feed-spec =

@@ -42,9 +42,12 @@ returns c =
     let a = c .before .before .before .before .before .before .before .before .args in
     let n : ℕ = c .before .before .before .before .before .least .result in
     let h = c .before .before .before .before .before .before .before .before .pre in
-    let e = c .before .before .before .before .before .least .ensures in
-    (ap (λ (x : List ℕ). take (a .used + n) (putMid (a .used) (a .used + n - a .used) (a .line .now) x)) (c .before .before .copy .ensures)
-    ∙ hold-part (a .line .now) (a .part .now) (a .used) n (h .0) (h .1) e, omega arith, omega arith)
+    let e = c .before .before .before .before .before .least .ensures in (
+      ap (λ (x : List ℕ). take (a .used + n) (putMid (a .used) (a .used + n - a .used) (a .line .now) x)) (c .before .before .copy .ensures)
+          ∙ hold-part (a .line .now) (a .part .now) (a .used) n (h .0) (h .1) e,
+      omega arith,
+      omega arith,
+    )
 
 pub hold-spec : {M : Type 1} → statement M
 hold-spec =

@@ -35,10 +35,12 @@ returns : tie.Need-returns
 returns c =
     let a = c .before .before .before .before .before .before .before .args in
     let r = c .before .before .print-line in
-    let few = simp length-take at (r .ensures .2) in
-    (ap (putMid (a .printed) (length (a .out .now) - a .printed) (a .out .now)) (r .ensures .0)
-    ∙ put-behind (a .out .now) (printLine (take (a .used) (a .line .now))) (a .printed) (r .result) (omega arith),
-    ap (λ (k : ℕ). a .printed + k) (r .ensures .1), omega arith)
+    let few = simp length-take at (r .ensures .2) in (
+      ap (putMid (a .printed) (length (a .out .now) - a .printed) (a .out .now)) (r .ensures .0)
+          ∙ put-behind (a .out .now) (printLine (take (a .used) (a .line .now))) (a .printed) (r .result) (omega arith),
+      ap (λ (k : ℕ). a .printed + k) (r .ensures .1),
+      omega arith,
+    )
 
 pub print-held-spec : {M : Type 1} → statement M
 print-held-spec =
