@@ -12,7 +12,7 @@ use Rattle.frame.proofs.finish.Tie as tie
 returns : tie.Need-returns
 returns c =
     let a = c .before .before .before .args in
-    let e = finished-none (a .line .now) (c .if1 .taken) in
+    let e = finished-none (a .line .now) (omega arith) in
     (ap (λ (x : List ℕ). x ++ a .out .now) (sym e), ap length (sym e), omega arith)
 
 print-line-requires : tie.Need-print-line-requires
