@@ -1,8 +1,8 @@
 -- Feeding any cuts of an input prints what the whole input does: the theorem `feeds-whole`. Assumes nothing.
-use mathlib.Core.Path.{_≡_, refl, sym, ap, ap₂, _∙_, subst}
+use mathlib.Core.Path.{_≡_, refl, sym, ap, ap₂, _∙_}
 use mathlib.Core.Bool.{Bool, true, false, cond}
 use mathlib.Core.List.{List, [], _∷_, _++_, append-assoc, append-nil}
-use mathlib.Core.Option.{Option, none, some}
+use mathlib.Core.Option.{Option, some}
 use Prim.Native.Nat.{ℕ, zero, suc, _+_, _≤_, _<_}
 use native.Mathlib.Decide.{decLe}
 use native.Mathlib.Omega.{arith}
@@ -12,7 +12,7 @@ use lib.Seq.{take-all, length-take-le}
 use borrow.Author.Tests.{le-leb, eq-eqb, ne-eqb}
 use Rattle.sector.specs.Answers.{settle}
 use Rattle.frame.specs.Frame.{frameRules, frameAnswer, shown, printLine, called, decode, half}
-use Rattle.frame.specs.Lines.{linesFrom, printLines, printInput, held, Fed, printing, fed, finished, fedAll, concat, FeedsWhole}
+use Rattle.frame.specs.Lines.{linesFrom, printLines, printInput, held, fed, finished, fedAll, concat, FeedsWhole}
 
 -- ---- a long line is refused whatever its bytes are
 
@@ -23,7 +23,9 @@ refused false b o z e = ap {B = ℕ × List ℕ} (λ (t : Bool). settle (cond t 
 pub long-line : (line : List ℕ) → 16499 ≤ length line → printLine line ≡ shown (12, [])
 unfolding printLine frameAnswer frameRules
 long-line line h =
-    ap shown (refused (eqb (length line) 0) (leb 16499 (length line)) _ (called (half (decode line)) (decode line)) (le-leb 16499 (length line) h))
+    ap shown
+    (refused (eqb (length line) 0) (leb 16499 (length line)) _ (called (half (decode line)) (decode line))
+    (le-leb 16499 (length line) h))
 
 -- what is held of a line prints what the line does
 pub held-enough : (line : List ℕ) → printLine (held line) ≡ printLine line
@@ -61,7 +63,8 @@ carried line (c ∷ cs) = cond (eqb c 10) (carried [] cs) (carried (line ++ (c �
 -- what is held is held of that line, and what is printed stands before what the rest prints
 record Buffer (line b : List ℕ) : Type 0 where
   rest : fed (held line) b .rest ≡ held (carried line b)
-  printed : (more : List ℕ) → fed (held line) b .printed ++ printLines (linesFrom (carried line b) more) ≡ printLines (linesFrom line (b ++ more))
+  printed : (more : List ℕ)
+      → fed (held line) b .printed ++ printLines (linesFrom (carried line b) more) ≡ printLines (linesFrom line (b ++ more))
 
 module _ (line : List ℕ) (c : ℕ) (cs : List ℕ) where
   buffer-feed : eqb c 10 ≡ true → Buffer [] cs → Buffer line (c ∷ cs)
@@ -69,7 +72,9 @@ module _ (line : List ℕ) (c : ℕ) (cs : List ℕ) where
   buffer-feed e r =
       record {
         rest = rw e (r .rest);
-        printed = λ more. rw e (append-assoc (printLine (held line)) (fed [] cs .printed) (printLines (linesFrom (carried [] cs) more)) ∙ ap₂ _++_ (held-enough line) (r .printed more));
+        printed = λ more. rw e
+            (append-assoc (printLine (held line)) (fed [] cs .printed) (printLines (linesFrom (carried [] cs) more))
+            ∙ ap₂ _++_ (held-enough line) (r .printed more));
       }
 
   buffer-byte : eqb c 10 ≡ false → Buffer (line ++ (c ∷ [])) cs → Buffer line (c ∷ cs)
@@ -116,7 +121,9 @@ unfolding fedAll
 feeds-line [] line = finished-line line
 feeds-line (b ∷ bs) line =
     let r = buffer line b in
-    ap (λ (l : List ℕ). fed (held line) b .printed ++ l) (ap (λ (l : List ℕ). fedAll l bs) (r .rest) ∙ feeds-line bs (carried line b)) ∙ r .printed (concat bs)
+    ap (λ (l : List ℕ). fed (held line) b .printed ++ l)
+    (ap (λ (l : List ℕ). fedAll l bs) (r .rest) ∙ feeds-line bs (carried line b))
+    ∙ r .printed (concat bs)
 
 pub feeds-whole : FeedsWhole
 unfolding printInput held

@@ -1,8 +1,8 @@
 -- A buffer fed by stretches, each up to the next line feed: the laws of the loops in `line_end` and `feed`. Assumes nothing.
-use mathlib.Core.Path.{_≡_, refl, sym, ap, ap₂, _∙_, subst}
+use mathlib.Core.Path.{_≡_, refl, sym, ap, ap₂, _∙_}
 use mathlib.Core.Bool.{Bool, true, false}
 use mathlib.Core.List.{List, [], _∷_, _++_, append-assoc, append-nil}
-use Prim.Native.Nat.{ℕ, zero, suc, _+_, _*_, _-_, _≤_, _<_, min}
+use Prim.Native.Nat.{ℕ, suc, _+_, _*_, _-_, _≤_, _<_, min}
 use native.Mathlib.Decide.{decLe}
 use native.Mathlib.Numerals.{add-one}
 use native.Mathlib.Omega.{arith}
@@ -10,7 +10,7 @@ use lib.Dec.{eqb}
 use lib.ListN.{length, take, drop, getD, length-append, length-take, length-drop, take-append-drop, drop-of-length-le}
 use lib.Seq.{take-all, take-at, drop-at, take-append-add, append-snoc, length-take-le, drop-cons, drop-drop, getD-drop}
 use borrow.Author.Tests.{eq-eqb, ne-eqb, eqb-true}
-use borrow.Rule.Slice.PartMut.{midOf, putMid}
+use borrow.Rule.Slice.PartMut.{putMid}
 use Rattle.frame.specs.Frame.{printLine}
 use Rattle.frame.specs.Lines.{held, Fed, printing, fed, stretch}
 use Rattle.frame.proofs.Feeding.{held-step, held-short}
@@ -25,7 +25,9 @@ module _ (b : List ℕ) (i : ℕ) where
   pub stretch-byte : i < length b → (getD b i 0 ≡ 10 → ⊥) → stretch (drop i b) ≡ stretch (drop (i + 1) b) + 1
   unfolding stretch
   stretch-byte h e =
-      ap stretch (drop-cons b i 0 h) ∙ rw (ne-eqb (getD b i 0) 10 e) (sym (add-one (stretch (drop (suc i) b)))) ∙ ap (λ (n : ℕ). stretch (drop n b) + 1) (sym (add-one i))
+      ap stretch (drop-cons b i 0 h)
+      ∙ rw (ne-eqb (getD b i 0) 10 e) (sym (add-one (stretch (drop (suc i) b))))
+      ∙ ap (λ (n : ℕ). stretch (drop n b) + 1) (sym (add-one i))
 
   pub stretch-end : length b ≤ i → stretch (drop i b) ≡ 0
   unfolding stretch
@@ -64,12 +66,15 @@ unfolding stretch
 fed-stretch h [] k = ap (λ (x : List ℕ). fed x []) (held-nothing h k)
 fed-stretch h (c ∷ cs) k = go (eqb c 10) refl (fed-stretch (held (h ++ (c ∷ []))) cs (held-most (h ++ (c ∷ []))))
   where
-    go : (t : Bool) → eqb c 10 ≡ t → fed (held (h ++ (c ∷ []))) cs ≡ fed (held (held (h ++ (c ∷ [])) ++ take (stretch cs) cs)) (drop (stretch cs) cs)
+    go : (t : Bool) → eqb c 10 ≡ t
+        → fed (held (h ++ (c ∷ []))) cs ≡ fed (held (held (h ++ (c ∷ [])) ++ take (stretch cs) cs)) (drop (stretch cs) cs)
         → fed h (c ∷ cs) ≡ fed (held (h ++ take (stretch (c ∷ cs)) (c ∷ cs))) (drop (stretch (c ∷ cs)) (c ∷ cs))
     go true e r = rw e (ap (λ (x : List ℕ). fed x (c ∷ cs)) (held-nothing h k))
     go false e r =
         fed-byte h c cs e ∙ r
-        ∙ rw e (ap (λ (x : List ℕ). fed x (drop (stretch cs) cs)) (held-step (h ++ (c ∷ [])) (take (stretch cs) cs) ∙ ap held (append-snoc h c (take (stretch cs) cs))))
+        ∙ rw e
+        (ap (λ (x : List ℕ). fed x (drop (stretch cs) cs))
+        (held-step (h ++ (c ∷ [])) (take (stretch cs) cs) ∙ ap held (append-snoc h c (take (stretch cs) cs))))
 
 -- ---- holding a stretch
 
@@ -99,7 +104,8 @@ pub put-behind : (out p : List ℕ) (a r : ℕ) → a ≤ length out
     → putMid a (length out - a) out (p ++ drop r (take (length out - a) (drop a out))) ≡ take a out ++ (p ++ drop (a + r) out)
 put-behind out p a r h =
     let all : take (length out - a) (drop a out) ≡ drop a out = take-all (length out - a) (drop a out) (simp length-drop (omega arith)) in
-    let none : drop (length out - a) (drop a out) ≡ [] = drop-of-length-le (drop a out) {i = length out - a} (simp length-drop (omega arith)) in
+    let behind : length (drop a out) ≤ length out - a = simp length-drop (omega arith) in
+    let none : drop (length out - a) (drop a out) ≡ [] = drop-of-length-le (drop a out) behind in
     ap (λ (x : List ℕ). take a out ++ x)
     (ap₂ (λ (x y : List ℕ). (p ++ drop r x) ++ y) all none
     ∙ append-nil (p ++ drop r (drop a out))
@@ -108,7 +114,8 @@ put-behind out p a r h =
 -- ---- the loop that feeds
 
 module _ (buffer line₀ : List ℕ) (u : ℕ) (out₀ : List ℕ) where
-  -- the buffer is fed up to `at`, and the stretch from there on ends at `end`; `size` bytes of `line` are held, `printed` of `out` are to print
+  -- the buffer is fed up to `at`, and the stretch from there on ends at `end`; `size` bytes of `line` are held, and `printed` bytes of `out`
+  -- are to be printed
   pub record SoFar (at end size printed : ℕ) (line out : List ℕ) : Type 0 where
     pub line-long : length line ≡ 16499
     pub out-long : length out ≡ length out₀
@@ -119,11 +126,22 @@ module _ (buffer line₀ : List ℕ) (u : ℕ) (out₀ : List ℕ) where
     pub whole : fed (take u line₀) buffer ≡ printing (take printed out) (fed (take size line) (drop at buffer))
     pub behind : drop printed out ≡ drop printed out₀
 
-  pub so-far-none : (end : ℕ) → length line₀ ≡ 16499 → u ≤ 16499 → end ≡ 0 + stretch (drop 0 buffer) → end ≤ length buffer → SoFar 0 end u 0 line₀ out₀
+  pub so-far-none : (end : ℕ) → length line₀ ≡ 16499 → u ≤ 16499 → end ≡ 0 + stretch (drop 0 buffer) → end ≤ length buffer
+      → SoFar 0 end u 0 line₀ out₀
   so-far-none end long most ends within =
-      record { line-long = long; out-long = refl; most = most; ends = ends; within = within; room = omega arith; whole = refl; behind = refl }
+      record {
+        line-long = long;
+        out-long = refl;
+        most = most;
+        ends = ends;
+        within = within;
+        room = omega arith;
+        whole = refl;
+        behind = refl;
+      }
 
-module _ {buffer line₀ : List ℕ} {u : ℕ} {out₀ : List ℕ} {at end size printed : ℕ} {line out : List ℕ} (I : SoFar buffer line₀ u out₀ at end size printed line out)
+module _ {buffer line₀ : List ℕ} {u : ℕ} {out₀ : List ℕ} {at end size printed : ℕ} {line out : List ℕ}
+    (I : SoFar buffer line₀ u out₀ at end size printed line out)
     (n : ℕ) (line′ : List ℕ) (stored : take n line′ ≡ held (take size line ++ take (end - at) (drop at buffer))) where
   -- the stretch is held
   fed-held : fed (take size line) (drop at buffer) ≡ fed (take n line′) (drop end buffer)
@@ -152,8 +170,8 @@ module _ {buffer line₀ : List ℕ} {u : ℕ} {out₀ : List ℕ} {at end size 
         ∙ ap (λ (k : ℕ). printing (printLine (take n line′)) (fed [] (drop k buffer))) (sym (add-one end))
 
     pub so-far-next : (p : ℕ) (out′ : List ℕ) (end′ : ℕ) → length line′ ≡ 16499 → n ≤ size + (end - at) → length out′ ≡ length out
-        → out′ ≡ take printed out ++ (printLine (take n line′) ++ drop p out) → p ≡ printed + length (printLine (take n line′)) → p ≤ printed + n + 3
-        → printed ≤ length out → end′ ≡ end + 1 + stretch (drop (end + 1) buffer) → end′ ≤ length buffer
+        → out′ ≡ take printed out ++ (printLine (take n line′) ++ drop p out) → p ≡ printed + length (printLine (take n line′))
+        → p ≤ printed + n + 3 → printed ≤ length out → end′ ≡ end + 1 + stretch (drop (end + 1) buffer) → end′ ≤ length buffer
         → SoFar buffer line₀ u out₀ (end + 1) end′ 0 p line′ out′
     so-far-next p out′ end′ long few same put size-is fits h ends within =
         let front : length (take printed out) ≡ printed = length-take-le printed out h in
@@ -173,7 +191,8 @@ module _ {buffer line₀ : List ℕ} {u : ℕ} {out₀ : List ℕ} {at end size 
           whole =
               I .whole
               ∙ ap (printing (take printed out)) fed-printed
-              ∙ ap {B = Fed} (λ (x : List ℕ). record { rest = rest .rest; printed = x }) (sym (append-assoc (take printed out) (printLine (take n line′)) (rest .printed)) ∙ ap (λ (x : List ℕ). x ++ rest .printed) (sym text));
+              ∙ ap {B = Fed} (λ (x : List ℕ). record { rest = rest .rest; printed = x })
+              (sym (append-assoc (take printed out) (printLine (take n line′)) (rest .printed)) ∙ ap (λ (x : List ℕ). x ++ rest .printed) (sym text));
           behind =
               ap (drop p) put′
               ∙ drop-at head (drop p out) p head-long

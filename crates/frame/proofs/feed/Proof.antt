@@ -1,7 +1,7 @@
 -- `feed` meets its contract. The loop's invariant is `SoFar`: what is printed, and what feeding the rest gives, is what feeding the whole
 -- buffer gives. The measure is what is left of the buffer. Assumes nothing.
 use mathlib.Core.Path.{sym, _∙_}
-use Prim.Native.Nat.{ℕ, _-_, _≤_}
+use Prim.Native.Nat.{_-_, _≤_}
 use native.Mathlib.Omega.{arith}
 use lib.ListN.{length, length-take, length-drop}
 use borrow.Author.Needs.{needs}
@@ -10,7 +10,8 @@ use Rattle.frame.proofs.feed.Statement.{statement}
 use Rattle.frame.proofs.feed.Tie as tie
 
 abbrev Inv-loop : tie.InvT-loop
-Inv-loop buffer line₀ used out₀ at₀ size₀ printed₀ end₀ line out at size printed end = SoFar buffer line₀ used out₀ at end size printed line out
+Inv-loop buffer line₀ used out₀ at₀ size₀ printed₀ end₀ line out at size printed end =
+    SoFar buffer line₀ used out₀ at end size printed line out
 
 abbrev μ-loop : tie.MeasureT-loop
 μ-loop buffer line₀ used out₀ at₀ size₀ printed₀ end₀ line out at size printed end = length buffer - end
@@ -22,7 +23,8 @@ loop-holds : tie.Need-loop-holds Inv-loop μ-loop
 loop-holds c =
     let a = c .before .before .before .before .args in
     let h = c .before .before .before .before .pre in
-    so-far-none (a .buffer .now) (a .line .now) (a .used) (a .out .now) (c .line-end .result) (h .0) (h .1) (c .line-end .ensures .0) (c .line-end .ensures .1)
+    so-far-none (a .buffer .now) (a .line .now) (a .used) (a .out .now) (c .line-end .result)
+    (h .0) (h .1) (c .line-end .ensures .0) (c .line-end .ensures .1)
 
 sub-hold : tie.Need-sub-hold Inv-loop μ-loop
 sub-hold c = let e = c .before .loop .inv .ends in omega arith
@@ -63,7 +65,8 @@ loop-again c =
     let v = l .inv in
     let h = c .before .before .before .before .before .before .before .before .before .before .before .before .before .before .before .before .before .pre in
     so-far-next v (o .result) _ (o .ensures .0) (omega arith)
-    (p .result) _ (c .line-end2 .result) (o .kept .1 .0 ∙ v .line-long) (omega arith) (p .kept .1 .1 .0) (p .ensures .0) (p .ensures .1) (p .ensures .2) (omega arith) (c .line-end2 .ensures .0) (c .line-end2 .ensures .1)
+    (p .result) _ (c .line-end2 .result) (o .kept .1 .0 ∙ v .line-long) (omega arith) (p .kept .1 .1 .0)
+    (p .ensures .0) (p .ensures .1) (p .ensures .2) (omega arith) (c .line-end2 .ensures .0) (c .line-end2 .ensures .1)
 
 sub-hold-2 : tie.Need-sub-hold-2 Inv-loop μ-loop
 sub-hold-2 c = let e = c .before .loop .inv .ends in omega arith
@@ -78,7 +81,10 @@ hold-requires-2 : tie.Need-hold-requires-2 Inv-loop μ-loop
 hold-requires-2 c κs = (c .before .before .before .loop .inv .line-long, c .before .before .before .loop .inv .most)
 
 same-length : tie.Need-same-length Inv-loop μ-loop
-same-length c = let v = c .before .before .before .before .before .before .loop .inv .line-long in let h = c .before .before .before .before .before .before .before .before .before .before .before .pre in c .before .before .hold2 .kept .1 .0 ∙ v ∙ sym (h .0)
+same-length c =
+    let v = c .before .before .before .before .before .before .loop .inv .line-long in
+    let h = c .before .before .before .before .before .before .before .before .before .before .before .pre in
+    c .before .before .hold2 .kept .1 .0 ∙ v ∙ sym (h .0)
 
 same-length-2 : tie.Need-same-length-2 Inv-loop μ-loop
 same-length-2 c = c .before .before .before .before .before .before .loop .inv .out-long

@@ -1,3 +1,4 @@
+-- A stub: `print_line` is another branch's. The hole stands for its whole proof.
 use borrow.Author.Needs.{needs}
 use Rattle.frame.proofs.print_line.Statement.{statement}
 use Rattle.frame.proofs.print_line.Tie as tie

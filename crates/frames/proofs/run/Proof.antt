@@ -1,4 +1,5 @@
--- `run` is safe and ends. The invariant: the three rooms keep their sizes, and what is held fits. The measure is the turns left. Assumes nothing.
+-- `run` is safe and ends. The invariant: the three rooms keep their sizes, and what is held fits. The measure is the turns left.
+-- Assumes nothing.
 use mathlib.Core.Path.{_≡_}
 use Prim.Native.Nat.{_≤_}
 use native.Mathlib.Omega.{arith}
@@ -8,7 +9,8 @@ use Rattle.frames.proofs.run.Statement.{statement}
 use Rattle.frames.proofs.run.Tie as tie
 
 abbrev Inv-loop : tie.InvT-loop
-Inv-loop buffer₀ line₀ out₀ used₀ more₀ turns₀ buffer line out used more turns = (length buffer ≡ 65536) × (length line ≡ 16499) × (used ≤ 16499) × (length out ≡ 213107)
+Inv-loop buffer₀ line₀ out₀ used₀ more₀ turns₀ buffer line out used more turns =
+    (length buffer ≡ 65536) × (length line ≡ 16499) × (used ≤ 16499) × (length out ≡ 213107)
 
 abbrev μ-loop : tie.MeasureT-loop
 μ-loop buffer₀ line₀ out₀ used₀ more₀ turns₀ buffer line out used more turns = turns
