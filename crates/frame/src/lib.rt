@@ -1,17 +1,14 @@
 // One line of the program `frames`, and an input fed one buffer at a time.
-use verdict::Done;
-use verdict::Judged;
-use verdict::Place;
-use verdict::Refusal;
 ghost use mathlib.Core.Path.{_≡_};
 ghost use mathlib.Core.Bool.{true, cond};
 ghost use mathlib.Core.List.{_++_};
 ghost use mathlib.Core.Option.{none};
-ghost use Prim.Native.Nat.{_+_, _*_, _≤_, _<_};
-ghost use lib.ListN.{length, drop, replicate};
-ghost use Rattle.verdict.specs.Answers.{firstOf, refusalNumber, placeNumber, doneNumber, judgedNumber};
+ghost use Prim.Native.Nat.{_+_, _*_, _≤_, _<_, min};
+ghost use lib.ListN.{length, take, drop, replicate};
+ghost use Rattle.verdict.specs.Answers.{firstOf};
 ghost use Rattle.frame.specs.Frame.{between, isDigit, digitValue, allDigits, together, judged, combined, called, lengthRules, kindRules, sectorRules, frameAnswer, printed, shown, printLine};
 ghost use Rattle.frame.specs.Frame as F;
+ghost use Rattle.frame.specs.Lines.{held, fed, finished, stretch};
 ghost use Rattle.frame.specs.Inner.{refusalOf, Prints, Sectors};
 
 // ---- hexadecimal
@@ -144,54 +141,7 @@ fn check_frame(frame: &[u8]) -> u8
     refused
 }
 
-// ---- the numbers of answers
-
-fn place_number(p: Place) -> u8
-    ensures { λ r. ⌜ r ≡ placeNumber p ⌝ }
-{
-    match p {
-        Place::Local => 0x81,
-        Place::Tag => 0x82,
-        Place::Remote => 0x83,
-    }
-}
-
-fn refusal_number(f: Refusal) -> u8
-    ensures { λ r. ⌜ r ≡ refusalNumber f ⌝ }
-{
-    match f {
-        Refusal::KeyLength => 1,
-        Refusal::SectorSize => 2,
-        Refusal::OtherLength => 3,
-        Refusal::UnknownSide => 4,
-        Refusal::NoneFits => 5,
-        Refusal::Lost => 6,
-        Refusal::Clashing => 7,
-        Refusal::VolumeShape => 8,
-        Refusal::SectorNumber => 9,
-        Refusal::StageOrder => 10,
-        Refusal::ListLength => 11,
-    }
-}
-
-fn judged_number(j: Judged) -> u8
-    ensures { λ r. ⌜ r ≡ judgedNumber j ⌝ }
-{
-    match j {
-        Judged::Whole => 0,
-        Judged::Doubtful(p) => place_number(p),
-        Judged::Refused(f) => refusal_number(f),
-    }
-}
-
-fn done_number(d: Done) -> u8
-    ensures { λ r. ⌜ r ≡ doneNumber d ⌝ }
-{
-    match d {
-        Done::Done => 0,
-        Done::Refused(f) => refusal_number(f),
-    }
-}
+// ---- a frame
 
 fn is_refusal(n: u8) -> bool
     ensures { λ r. ⌜ r ≡ between 1 12 n ⌝ }
@@ -202,8 +152,6 @@ fn is_refusal(n: u8) -> bool
     n <= 12
 }
 
-// ---- a frame
-
 // Judges a frame 01: its parts are lent on, and the plaintext goes to `plain`.
 fn judge_frame(frame: &[u8], plain: &mut [u8]) -> u8
     requires { ⌜ length (now frame) ≡ 57 + 2 * length (now plain) ⌝ }
@@ -212,7 +160,7 @@ fn judge_frame(frame: &[u8], plain: &mut [u8]) -> u8
     let s = plain.len();
     let tag = 41 + s;
     let remote = 57 + s;
-    judged_number(sector::judge(
+    verdict::judged_number(sector::judge(
         &frame[1..33],
         block::load_word(frame, 33),
         &frame[41..tag],
@@ -228,7 +176,7 @@ fn combine_frame(frame: &[u8], plain: &mut [u8]) -> u8
     ensures { λ r. ⌜ combined (now (frame .entry)) (now (plain .entry)) ≡ (r, now (plain .exit)) ⌝ }
 {
     let remote = 1 + plain.len();
-    done_number(sector::combine(&frame[1..remote], &frame[remote..], plain))
+    verdict::done_number(sector::combine(&frame[1..remote], &frame[remote..], plain))
 }
 
 fn call_frame(frame: &[u8], plain: &mut [u8]) -> u8
@@ -299,4 +247,87 @@ pub fn print_line(line: &[u8], out: &mut [u8]) -> usize
         return print_decoded(line, &mut frame[..n], out);
     }
     show(refused, &line[..0], out)
+}
+
+// ---- an input fed one buffer at a time
+
+// How many bytes of a line that has not ended are held, and how many there are to print.
+pub struct Fed {
+    pub used: usize,
+    pub printed: usize,
+}
+
+// The next line feed from `at` on, or the buffer's end.
+fn line_end(buffer: &[u8], at: usize) -> usize
+    requires { ⌜ at ≤ length (now buffer) ⌝ }
+    ensures { λ r. ⌜ (r ≡ at + stretch (drop at (now (buffer .entry)))) × (r ≤ length (now (buffer .entry))) ⌝ }
+{
+    let mut end = at;
+    while end < buffer.len() {
+        if buffer[end] == b'\n' {
+            return end;
+        }
+        end += 1;
+    }
+    end
+}
+
+fn least(a: usize, b: usize) -> usize
+    ensures { λ r. ⌜ r ≡ min a b ⌝ }
+{
+    if a < b { a } else { b }
+}
+
+// Puts a stretch of a line behind its first `used` bytes, as far as there is room, and gives how many bytes are held then.
+fn hold(part: &[u8], line: &mut [u8], used: usize) -> usize
+    requires { ⌜ (length (now line) ≡ 16499) × (used ≤ 16499) ⌝ }
+    ensures { λ r. ⌜ (take r (now (line .exit)) ≡ held (take used (now (line .entry)) ++ now (part .entry))) × (r ≤ 16499) × (r ≤ used + length (now (part .entry))) ⌝ }
+{
+    let n = least(part.len(), 16499 - used);
+    let end = used + n;
+    block::copy(&part[..n], &mut line[used..end]);
+    end
+}
+
+// Prints a held line behind the first `printed` bytes of `out`, and gives how many bytes are printed then.
+fn print_held(line: &[u8], used: usize, out: &mut [u8], printed: usize) -> usize
+    requires { ⌜ (used ≤ length (now line)) × (printed + used + 3 ≤ length (now out)) ⌝ }
+    ensures { λ r. ⌜ (now (out .exit) ≡ take printed (now (out .entry)) ++ (printLine (take used (now (line .entry))) ++ drop r (now (out .entry)))) × (r ≡ printed + length (printLine (take used (now (line .entry))))) × (r ≤ printed + used + 3) ⌝ }
+{
+    printed + print_line(&line[..used], &mut out[printed..])
+}
+
+// Feeds a buffer. The first `used` bytes of `line` are those of a line that has not ended. What is to be printed comes to the front of `out`.
+// No more than 16,499 bytes of a line are held, which are enough to refuse it.
+pub fn feed(buffer: &[u8], line: &mut [u8], used: usize, out: &mut [u8]) -> Fed
+    requires { ⌜ (length (now line) ≡ 16499) × (used ≤ 16499) × (used + 3 * length (now buffer) ≤ length (now out)) ⌝ }
+    ensures { λ r. ⌜ (take (r .used) (now (line .exit)) ≡ fed (take used (now (line .entry))) (now (buffer .entry)) .rest) × (now (out .exit) ≡ fed (take used (now (line .entry))) (now (buffer .entry)) .printed ++ drop (r .printed) (now (out .entry))) × (r .printed ≡ length (fed (take used (now (line .entry))) (now (buffer .entry)) .printed)) × (r .used ≤ 16499) × (r .printed ≤ length (now (out .entry))) ⌝ }
+{
+    let mut at: usize = 0;
+    let mut size = used;
+    let mut printed: usize = 0;
+    let mut end = line_end(buffer, 0);
+    while end < buffer.len() {
+        let n = hold(&buffer[at..end], line, size);
+        printed = print_held(&line[..], n, out, printed);
+        size = 0;
+        at = end + 1;
+        end = line_end(buffer, at);
+    }
+    let last = hold(&buffer[at..end], line, size);
+    Fed {
+        used: last,
+        printed,
+    }
+}
+
+// Prints the line that the end of the input ends, if it is not empty.
+pub fn finish(line: &[u8], out: &mut [u8]) -> usize
+    requires { ⌜ length (now line) + 3 ≤ length (now out) ⌝ }
+    ensures { λ r. ⌜ (now (out .exit) ≡ finished (now (line .entry)) ++ drop r (now (out .entry))) × (r ≡ length (finished (now (line .entry)))) × (r ≤ length (now (line .entry)) + 3) ⌝ }
+{
+    if line.len() == 0 {
+        return 0;
+    }
+    print_line(line, out)
 }

@@ -2,10 +2,8 @@
 // 81, 82 or 83 (hexadecimal) for doubt at local, tag or remote, or the refusal.
 use verdict::Done;
 use verdict::Judged;
-use verdict::Place;
-use verdict::Refusal;
 ghost use mathlib.Core.Path.{_≡_};
-ghost use Rattle.verdict.specs.Answers.{refusalNumber, placeNumber, doneNumber, judgedNumber};
+ghost use Rattle.verdict.specs.Answers.{doneNumber, judgedNumber};
 ghost use Rattle.verdict.specs.Judging.{key, triple};
 ghost use Rattle.sector.specs.Calls.{sealCall, judgeCall, openCall, rebuildCall, combineCall};
 ghost use Rattle.verdict.specs.Judging as C;
@@ -13,51 +11,16 @@ ghost use Rattle.volume.specs.Lent.{args};
 ghost use Rattle.volume.specs.Volume.{outcome, readOutcome};
 ghost use Rattle.volume.specs.Volume as W;
 
-fn refusal_number(r: Refusal) -> u32
-    ensures { λ n. ⌜ n ≡ refusalNumber r ⌝ }
-{
-    match r {
-        Refusal::KeyLength => 1,
-        Refusal::SectorSize => 2,
-        Refusal::OtherLength => 3,
-        Refusal::UnknownSide => 4,
-        Refusal::NoneFits => 5,
-        Refusal::Lost => 6,
-        Refusal::Clashing => 7,
-        Refusal::VolumeShape => 8,
-        Refusal::SectorNumber => 9,
-        Refusal::StageOrder => 10,
-        Refusal::ListLength => 11,
-    }
-}
-
-fn place_number(p: Place) -> u32
-    ensures { λ n. ⌜ n ≡ placeNumber p ⌝ }
-{
-    match p {
-        Place::Local => 0x81,
-        Place::Tag => 0x82,
-        Place::Remote => 0x83,
-    }
-}
-
 fn done_number(d: Done) -> u32
     ensures { λ n. ⌜ n ≡ doneNumber d ⌝ }
 {
-    match d {
-        Done::Done => 0,
-        Done::Refused(r) => refusal_number(r),
-    }
+    verdict::done_number(d) as u32
 }
 
 fn judged_number(j: Judged) -> u32
     ensures { λ n. ⌜ n ≡ judgedNumber j ⌝ }
 {
-    match j {
-        Judged::Whole => 0,
-        Judged::Doubtful(p) => place_number(p),
-        Judged::Refused(r) => refusal_number(r),
-    }
+    verdict::judged_number(j) as u32
 }
 
 #[no_mangle]

@@ -4,14 +4,9 @@
 // number and leaves every byte of those slices so.
 use libc::STDIN_FILENO;
 use libc::STDOUT_FILENO;
-use verdict::Done;
-use verdict::Judged;
-use verdict::Place;
-use verdict::Refusal;
 ghost use mathlib.Core.Path.{_≡_};
 ghost use Prim.Native.Nat.{_+_, _*_, _≤_, _<_};
 ghost use lib.ListN.{length};
-ghost use Rattle.verdict.specs.Answers.{refusalNumber, placeNumber, judgedNumber, doneNumber};
 
 const SEAL: u8 = 0;
 
@@ -29,55 +24,6 @@ const UNKNOWN: u8 = 5;
 struct Tally {
     agreed: usize,
     differ: usize,
-}
-
-// ---- the numbers of answers
-
-fn place_number(p: Place) -> u8
-    ensures { λ r. ⌜ r ≡ placeNumber p ⌝ }
-{
-    match p {
-        Place::Local => 0x81,
-        Place::Tag => 0x82,
-        Place::Remote => 0x83,
-    }
-}
-
-fn refusal_number(f: Refusal) -> u8
-    ensures { λ r. ⌜ r ≡ refusalNumber f ⌝ }
-{
-    match f {
-        Refusal::KeyLength => 1,
-        Refusal::SectorSize => 2,
-        Refusal::OtherLength => 3,
-        Refusal::UnknownSide => 4,
-        Refusal::NoneFits => 5,
-        Refusal::Lost => 6,
-        Refusal::Clashing => 7,
-        Refusal::VolumeShape => 8,
-        Refusal::SectorNumber => 9,
-        Refusal::StageOrder => 10,
-        Refusal::ListLength => 11,
-    }
-}
-
-fn judged_number(j: Judged) -> u8
-    ensures { λ r. ⌜ r ≡ judgedNumber j ⌝ }
-{
-    match j {
-        Judged::Whole => 0,
-        Judged::Doubtful(p) => place_number(p),
-        Judged::Refused(f) => refusal_number(f),
-    }
-}
-
-fn done_number(d: Done) -> u8
-    ensures { λ r. ⌜ r ≡ doneNumber d ⌝ }
-{
-    match d {
-        Done::Done => 0,
-        Done::Refused(f) => refusal_number(f),
-    }
 }
 
 // ---- the fields of a frame
@@ -186,7 +132,7 @@ fn fill(before: &[u8], out: &mut [u8]) -> bool {
 }
 
 fn seal(frame: &[u8], local: &mut [u8], remote: &mut [u8], tag: &mut [u8]) -> u8 {
-    done_number(sector::seal(
+    verdict::done_number(sector::seal(
         field(frame, 0),
         address(frame),
         field(frame, 2),
@@ -197,7 +143,7 @@ fn seal(frame: &[u8], local: &mut [u8], remote: &mut [u8], tag: &mut [u8]) -> u8
 }
 
 fn judge(frame: &[u8], out: &mut [u8]) -> u8 {
-    judged_number(sector::judge(
+    verdict::judged_number(sector::judge(
         field(frame, 0),
         address(frame),
         field(frame, 2),
@@ -208,7 +154,7 @@ fn judge(frame: &[u8], out: &mut [u8]) -> u8 {
 }
 
 fn open(frame: &[u8], out: &mut [u8]) -> u8 {
-    done_number(sector::open(
+    verdict::done_number(sector::open(
         field(frame, 0),
         address(frame),
         side(frame),
@@ -219,7 +165,7 @@ fn open(frame: &[u8], out: &mut [u8]) -> u8 {
 }
 
 fn rebuild(frame: &[u8], out: &mut [u8]) -> u8 {
-    done_number(sector::rebuild(
+    verdict::done_number(sector::rebuild(
         field(frame, 0),
         address(frame),
         side(frame),
@@ -230,7 +176,7 @@ fn rebuild(frame: &[u8], out: &mut [u8]) -> u8 {
 }
 
 fn combine(frame: &[u8], out: &mut [u8]) -> u8 {
-    done_number(sector::combine(field(frame, 0), field(frame, 1), out))
+    verdict::done_number(sector::combine(field(frame, 0), field(frame, 1), out))
 }
 
 // The answer's number of a call that writes one slice.

@@ -12,7 +12,7 @@ ghost use Rattle.block.specs.Value.{value};
 ghost use Rattle.mode.specs.Prepared.{Ready};
 ghost use Rattle.mode.specs.Scheme.{isSize};
 ghost use Rattle.mode.specs.Sealing.{tweak};
-ghost use Rattle.verdict.specs.Answers.{firstOf, keyRules, doneOption, judgedNumber};
+ghost use Rattle.verdict.specs.Answers.{firstOf, keyRules, doneOption, refusalNumber, placeNumber, doneNumber, judgedNumber};
 ghost use Rattle.verdict.specs.Judging.{schemeOf, openingOf, Lent, judgedBy, SumFits, SumFails};
 ghost use Rattle.verdict.specs.Judging as J;
 ghost use Rattle.verdict.specs.Verdict.{sideOf, openSide};
@@ -50,6 +50,55 @@ pub enum Judged {
 pub enum Done {
     Done,
     Refused(Refusal),
+}
+
+// ---- the numbers of answers
+
+fn place_number(p: Place) -> u8
+    ensures { λ r. ⌜ r ≡ placeNumber p ⌝ }
+{
+    match p {
+        Place::Local => 0x81,
+        Place::Tag => 0x82,
+        Place::Remote => 0x83,
+    }
+}
+
+pub fn refusal_number(f: Refusal) -> u8
+    ensures { λ r. ⌜ r ≡ refusalNumber f ⌝ }
+{
+    match f {
+        Refusal::KeyLength => 1,
+        Refusal::SectorSize => 2,
+        Refusal::OtherLength => 3,
+        Refusal::UnknownSide => 4,
+        Refusal::NoneFits => 5,
+        Refusal::Lost => 6,
+        Refusal::Clashing => 7,
+        Refusal::VolumeShape => 8,
+        Refusal::SectorNumber => 9,
+        Refusal::StageOrder => 10,
+        Refusal::ListLength => 11,
+    }
+}
+
+pub fn judged_number(j: Judged) -> u8
+    ensures { λ r. ⌜ r ≡ judgedNumber j ⌝ }
+{
+    match j {
+        Judged::Whole => 0,
+        Judged::Doubtful(p) => place_number(p),
+        Judged::Refused(f) => refusal_number(f),
+    }
+}
+
+pub fn done_number(d: Done) -> u8
+    ensures { λ r. ⌜ r ≡ doneNumber d ⌝ }
+{
+    match d {
+        Done::Done => 0,
+        Done::Refused(f) => refusal_number(f),
+    }
 }
 
 // Whether s is the size of a sector.
