@@ -11,7 +11,7 @@ use lib.ListN.{length, take, length-take}
 use lib.Seq.{take-all, length-take-le}
 use borrow.Author.Tests.{le-leb, eq-eqb, ne-eqb}
 use Rattle.verdict.specs.Answers.{settle}
-use Rattle.frame.specs.Frame.{frameRules, frameAnswer, shown, printLine, called, decode, half}
+use Rattle.frame.specs.Frame.{frameAnswer, lineAnswer, shown, printLine, decode}
 use Rattle.frame.specs.Lines.{linesFrom, printLines, printInput, held, fed, finished, fedAll, concat, FeedsWhole}
 
 -- ---- a long line is refused whatever its bytes are
@@ -21,11 +21,9 @@ refused true b o z e = refl
 refused false b o z e = ap {B = ℕ × List ℕ} (λ (t : Bool). settle (cond t (some 12) o) z []) e
 
 pub long-line : (line : List ℕ) → 16499 ≤ length line → printLine line ≡ shown (12, [])
-unfolding printLine frameAnswer frameRules
+unfolding printLine lineAnswer
 long-line line h =
-    ap shown
-    (refused (eqb (length line) 0) (leb 16499 (length line)) _ (called (half (decode line)) (decode line))
-    (le-leb 16499 (length line) h))
+    ap shown (refused (eqb (length line) 0) (leb 16499 (length line)) _ (frameAnswer (decode line)) (le-leb 16499 (length line) h))
 
 -- what is held of a line prints what the line does
 pub held-enough : (line : List ℕ) → printLine (held line) ≡ printLine line
