@@ -2,6 +2,8 @@
 // 81, 82 or 83 (hexadecimal) for doubt at local, tag or remote, or the refusal.
 use verdict::Done;
 use verdict::Judged;
+use volume::Counts;
+use volume::Surveyed;
 ghost use mathlib.Core.Path.{_≡_};
 ghost use Rattle.verdict.specs.Answers.{doneNumber, judgedNumber};
 ghost use Rattle.verdict.specs.Judging.{key, triple};
@@ -10,6 +12,8 @@ ghost use Rattle.verdict.specs.Judging as C;
 ghost use Rattle.volume.specs.Lent.{args};
 ghost use Rattle.volume.specs.Volume.{outcome, readOutcome};
 ghost use Rattle.volume.specs.Volume as W;
+ghost use Rattle.volume.specs.Survey.{surveyOutcome};
+ghost use Rattle.mirror.specs.Survey.{numbers, surveyResult};
 
 fn done_number(d: Done) -> u32
     ensures { λ n. ⌜ n ≡ doneNumber d ⌝ }
@@ -178,4 +182,40 @@ pub extern "C" fn mirror_mend(
     ensures { λ r. ⌜ outcome (triple (now (local .entry)) (now (tags .entry)) (now (remote .entry))) (args (C.key (now (key .entry))) s n number) W.mend ≡ (r, triple (now (local .exit)) (now (tags .exit)) (now (remote .exit))) ⌝ }
 {
     judged_number(volume::mend(key, s, n, number, local, tags, remote))
+}
+
+fn count_numbers(c: Counts) -> [u64; 5]
+    ensures { λ r. ⌜ r ≡ numbers c ⌝ }
+{
+    [
+        c.whole as u64,
+        c.doubtful as u64,
+        c.clashing as u64,
+        c.lost as u64,
+        c.health as u64,
+    ]
+}
+
+// `counts` is given whole, doubtful, clashing, lost and the health.
+#[no_mangle]
+pub extern "C" fn mirror_survey(
+    key: &[u8],
+    s: usize,
+    n: usize,
+    local: &[u8],
+    tags: &[u8],
+    remote: &[u8],
+    list: &mut [u32],
+    counts: &mut [u64; 5],
+) -> u32
+    ensures { λ r. ⌜ surveyResult (surveyOutcome (triple (now (local .entry)) (now (tags .entry)) (now (remote .entry))) (C.key (now (key .entry))) s n (now (list .entry))) (now (counts .entry)) ≡ (r, (now (counts .exit), now (list .exit))) ⌝ }
+{
+    let surveyed = volume::survey(key, s, n, local, tags, remote, list);
+    match surveyed {
+        Surveyed::Counted(c) => {
+            *counts = count_numbers(c);
+            0
+        }
+        Surveyed::Refused(f) => verdict::refusal_number(f) as u32,
+    }
 }

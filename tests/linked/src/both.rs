@@ -20,8 +20,38 @@ impl Calls for Both {
     }
 
     fn survey(&self, given: &Given, images: &Images, list: &mut [u32]) -> Result<Survey, Refusal> {
-        Reference.survey(given, images, list)
+        let mut lent = list.to_vec();
+        let mut counts = [FILL; 5];
+        let number = library_survey(given, images, &mut lent, &mut counts);
+        let answer = Reference.survey(given, images, list);
+        let due = match &answer {
+            Ok(survey) => (0, counts_of(survey)),
+            Err(refusal) => (u32::from(refusal.number()), [FILL; 5]),
+        };
+        assert_eq!((number, counts), due, "survey");
+        assert_eq!(lent, list, "survey left another list");
+        answer
     }
+}
+
+/// What is in the counts before a survey.
+const FILL: u64 = 0x5a5a;
+
+fn counts_of(survey: &Survey) -> [u64; 5] {
+    [
+        survey.whole,
+        survey.doubtful,
+        survey.clashing,
+        survey.lost,
+        survey.health,
+    ]
+    .map(|count| count as u64)
+}
+
+fn library_survey(given: &Given, images: &Images, list: &mut [u32], counts: &mut [u64; 5]) -> u32 {
+    let Given { key, size, count } = given;
+    let Images { local, tag, remote } = images;
+    crate::survey(key, *size, *count, local, tag, remote, list, counts)
 }
 
 fn library_run(request: &Request, images: &mut Images, out: &mut [u8]) -> u32 {

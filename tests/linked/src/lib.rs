@@ -92,3 +92,52 @@ calls! {
         key: shared; s: usize, n: usize, number: usize; local: lent, tags: lent, remote: lent
     );
 }
+
+extern "C" {
+    fn mirror_survey(
+        key: *const u8,
+        key_len: usize,
+        s: usize,
+        n: usize,
+        local: *const u8,
+        local_len: usize,
+        tags: *const u8,
+        tags_len: usize,
+        remote: *const u8,
+        remote_len: usize,
+        list: *mut u32,
+        list_len: usize,
+        counts: *mut [u64; 5],
+    ) -> u32;
+}
+
+/// The counts are whole, doubtful, clashing, lost and the health.
+pub fn survey(
+    key: &[u8],
+    s: usize,
+    n: usize,
+    local: &[u8],
+    tags: &[u8],
+    remote: &[u8],
+    list: &mut [u32],
+    counts: &mut [u64; 5],
+) -> u32 {
+    // SAFETY: as in the other calls; the counts go as a pointer alone.
+    unsafe {
+        mirror_survey(
+            key.as_ptr(),
+            key.len(),
+            s,
+            n,
+            local.as_ptr(),
+            local.len(),
+            tags.as_ptr(),
+            tags.len(),
+            remote.as_ptr(),
+            remote.len(),
+            list.as_mut_ptr(),
+            list.len(),
+            counts,
+        )
+    }
+}
