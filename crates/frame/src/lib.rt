@@ -14,7 +14,7 @@ ghost use Rattle.frame.specs.Inner.{refusalOf, Prints, Sectors};
 // ---- hexadecimal
 
 // The value of a digit in either case, and 16 of any other byte.
-fn digit_value(c: u8) -> u8
+pub fn digit_value(c: u8) -> u8
     ensures { λ r. ⌜ r ≡ cond (isDigit c) (digitValue c) 16 ⌝ }
 {
     match c {
@@ -26,7 +26,7 @@ fn digit_value(c: u8) -> u8
 }
 
 // The bytes of a line of digits. False where another byte is among them.
-fn decode(line: &[u8], frame: &mut [u8]) -> bool
+pub fn decode(line: &[u8], frame: &mut [u8]) -> bool
     requires { ⌜ length (now line) ≡ 2 * length (now frame) ⌝ }
     ensures { λ r. ⌜ (r ≡ allDigits (now (line .entry))) × (r ≡ true → now (frame .exit) ≡ F.decode (now (line .entry))) ⌝ }
 {
@@ -258,7 +258,7 @@ pub struct Fed {
 }
 
 // The next line feed from `at` on, or the buffer's end.
-fn line_end(buffer: &[u8], at: usize) -> usize
+pub fn line_end(buffer: &[u8], at: usize) -> usize
     requires { ⌜ at ≤ length (now buffer) ⌝ }
     ensures { λ r. ⌜ (r ≡ at + stretch (drop at (now (buffer .entry)))) × (r ≤ length (now (buffer .entry))) ⌝ }
 {

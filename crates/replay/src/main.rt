@@ -288,41 +288,10 @@ fn frame_agrees(kind: u8, frame: &[u8]) -> bool {
 
 // ---- lines
 
-// The value of a hexadecimal digit, and 16 of any other byte.
-fn digit(c: u8) -> u8
-    ensures { λ r. ⌜ r ≤ 16 ⌝ }
-{
-    match c {
-        b'0'..=b'9' => c - b'0',
-        b'a'..=b'f' => c - b'a' + 10,
-        _ => 16,
-    }
-}
-
-// The bytes of a line of digits. False where another byte is among them.
-fn decode(line: &[u8], frame: &mut [u8]) -> bool
-    requires { ⌜ length (now line) ≡ 2 * length (now frame) ⌝ }
-{
-    let mut i: usize = 0;
-    while i < frame.len() {
-        let high = digit(line[2 * i]);
-        let low = digit(line[2 * i + 1]);
-        if 15 < high {
-            return false;
-        }
-        if 15 < low {
-            return false;
-        }
-        frame[i] = 16 * high + low;
-        i += 1;
-    }
-    true
-}
-
 fn line_agrees_in(kind: u8, line: &[u8], frame: &mut [u8]) -> bool
     requires { ⌜ length (now line) ≡ 2 * length (now frame) ⌝ }
 {
-    if decode(line, frame) {
+    if frame::decode(line, frame) {
         return frame_agrees(kind, &frame[..]);
     }
     false
@@ -345,27 +314,12 @@ fn kind_of(line: &[u8]) -> u8 {
         return UNKNOWN;
     }
     if line[0] == b'0' {
-        let kind = digit(line[1]);
+        let kind = frame::digit_value(line[1]);
         if kind < UNKNOWN {
             return kind;
         }
     }
     UNKNOWN
-}
-
-// The end of the line that starts at `at`: its line feed, or the end of the text.
-fn line_end(text: &[u8], at: usize) -> usize
-    requires { ⌜ at ≤ length (now text) ⌝ }
-    ensures { λ r. ⌜ (at ≤ r) × (r ≤ length (now (text .entry))) ⌝ }
-{
-    let mut end = at;
-    while end < text.len() {
-        if text[end] == b'\n' {
-            return end;
-        }
-        end += 1;
-    }
-    end
 }
 
 // The start of the line after the one that ends at `end`.
@@ -439,7 +393,7 @@ fn replay(text: &[u8], kind: u8) -> Tally {
     let mut at: usize = 0;
     let mut n: usize = 0;
     while at < text.len() {
-        let end = line_end(text, at);
+        let end = frame::line_end(text, at);
         n += 1;
         tally = counted(tally, kind, &text[at..end], n);
         at = line_after(text, at, end);
