@@ -10,8 +10,8 @@ ghost use Rattle.verdict.specs.Judging.{key, triple};
 ghost use Rattle.sector.specs.Calls.{sealCall, judgeCall, openCall, rebuildCall, combineCall};
 ghost use Rattle.verdict.specs.Judging as C;
 ghost use Rattle.volume.specs.Lent.{args};
-ghost use Rattle.volume.specs.Volume.{outcome, readOutcome};
-ghost use Rattle.volume.specs.Volume as W;
+ghost use Rattle.history.specs.Volume.{outcome, readOutcome};
+ghost use Rattle.history.specs.Volume as W;
 ghost use Rattle.volume.specs.Survey.{surveyOutcome};
 ghost use Rattle.mirror.specs.Survey.{numbers, surveyResult};
 

@@ -13,7 +13,7 @@ use Rattle.verdict.specs.Judging.{key, verdictOutcome, schemeOf, judgedBy}
 use Rattle.verdict.specs.Verdict.{fits, fitsTwo, candidate, grade, judge}
 use Rattle.verdict.proofs.Prepared.{ContextOf, scheme-is}
 use Rattle.volume.specs.Lent.{placesOf, firstOutcome, secondOutcome, thirdOutcome, mendOutcome}
-use Rattle.volume.specs.Volume.{blank, writes, writeAll, mirror}
+use Rattle.history.specs.Volume.{blank, writes, writeAll, mirror}
 
 -- the mirror at a number is the mode at its tweak
 judge-mirror : (k : List ℕ) (i : ℕ) (t : Triple) → judge (mirror (key k)) i t ≡ judge (scheme (key k)) (tweak i) t

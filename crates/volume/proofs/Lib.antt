@@ -1,12 +1,3 @@
-pub mod Options
-pub mod Refusals
-pub mod Sector
-pub mod Images
-pub mod Events
-pub mod Promises
-pub mod History
-pub mod Demand3
-pub mod Ranges
 pub mod Parts
 pub mod Answers
 pub mod Stages

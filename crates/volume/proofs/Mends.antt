@@ -15,7 +15,7 @@ use Rattle.verdict.specs.Answers.{doubtNumber, refusalNumber, placeNumber, judg
 use Rattle.verdict.specs.Judging.{verdictOutcome}
 use Rattle.verdict.specs.Verdict.{Verdict, whole, doubtful, lost, clashing}
 use Rattle.volume.specs.Lent.{placeNamed, verdictNumber, mendOutcome}
-use Rattle.volume.specs.Volume.{write}
+use Rattle.history.specs.Volume.{write}
 
 -- ---- the verdict behind a number
 

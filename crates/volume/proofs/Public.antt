@@ -17,11 +17,11 @@ use Rattle.mode.proofs.Sizes.{key-size, size-whole, size-le}
 use Rattle.verdict.specs.Answers.{rule, firstOf}
 use Rattle.verdict.specs.Judging.{verdictOutcome}
 use Rattle.verdict.specs.Verdict.{Verdict, whole, doubtful, lost, clashing, fits, judge}
-use Rattle.volume.specs.Answers.{Answer, done, reply, isWhole, isLost, isClashing, unjudged, judgeAnswer, answerNumber, output}
+use Rattle.history.specs.Answers.{Answer, done, reply, isWhole, isLost, isClashing, unjudged, judgeAnswer, answerNumber, output}
 use Rattle.volume.specs.Lent.{Within, stage, firstOutcome, secondOutcome, thirdOutcome, mendOutcome}
-use Rattle.volume.specs.Volume.{store, writeAll, Args, Call, blank, first, second, third, mend, read, shape, isShape, lengthRules, lengths, early, mends, writes, mendAnswer, result, unless, sector, refusal, after, mirror, outcome, readOutcome}
-use Rattle.volume.proofs.Images.{after-accepted, after-refused}
-use Rattle.volume.proofs.Refusals.{passed, long-3, shape-facts, refusal-late, answer-accepted, answer-refused, answer-late, early-answer, refusal-early}
+use Rattle.history.specs.Volume.{store, writeAll, Args, Call, blank, first, second, third, mend, read, shape, isShape, lengthRules, lengths, early, mends, writes, mendAnswer, result, unless, sector, refusal, after, mirror, outcome, readOutcome}
+use Rattle.history.proofs.Images.{after-accepted, after-refused}
+use Rattle.history.proofs.Refusals.{passed, long-3, shape-facts, refusal-late, answer-accepted, answer-refused, answer-late, early-answer, refusal-early}
 
 -- ---- ranges
 

@@ -24,7 +24,7 @@ use Rattle.verdict.specs.Answers.{refusalNumber, placeNumber, judgedNumber}
 use Rattle.verdict.specs.Judging.{verdictOutcome, schemeOf}
 use Rattle.verdict.specs.Verdict.{Verdict, whole, doubtful, lost, clashing, fits, judge}
 use Rattle.verdict.proofs.Sides.{tag-loaded, tag-compared}
-use Rattle.volume.specs.Answers.{isWhole}
+use Rattle.history.specs.Answers.{isWhole}
 use Rattle.volume.specs.Lent.{stage, placesOf, firstOutcome, secondOutcome, thirdOutcome}
 
 -- ---- numbers of answers

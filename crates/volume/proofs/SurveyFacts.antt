@@ -10,14 +10,14 @@ use Rattle.block.proofs.Lists.{false-true}
 use Rattle.mode.specs.Sealing.{Triple}
 use Rattle.verdict.specs.Answers.{firstOf}
 use Rattle.verdict.specs.Verdict.{Verdict, whole, doubtful, lost, clashing}
-use Rattle.volume.specs.Answers.{Answer, refused, reply, isWhole, isDoubtful, isClashing, isLost, unjudged}
-use Rattle.volume.specs.History.{Proper, Found, Promise, Promised, AnyBytes}
+use Rattle.history.specs.Answers.{Answer, refused, reply, isWhole, isDoubtful, isClashing, isLost, unjudged}
+use Rattle.history.specs.History.{Proper, Found, Promise, Promised, AnyBytes}
 use Rattle.volume.specs.Lent.{args}
-use Rattle.volume.specs.Machine.{Event, Held, gone, kept, start, Volume, AllAllowed, run, hold}
+use Rattle.history.specs.Machine.{Event, Held, gone, kept, start, Volume, AllAllowed, run, hold}
 use Rattle.volume.specs.Survey.{tally, isKept, Accepted, verdicts, SurveyFacts}
-use Rattle.volume.specs.Volume.{Args, read, lengthRules, mirror}
-use Rattle.volume.proofs.Demand3.{demand-3}
-use Rattle.volume.proofs.Refusals.{passes-early, answer-late}
+use Rattle.history.specs.Volume.{Args, read, lengthRules, mirror}
+use Rattle.history.proofs.Demand3.{demand-3}
+use Rattle.history.proofs.Refusals.{passes-early, answer-late}
 use Rattle.volume.proofs.Surveying.{tests, survey-passes}
 use Rattle.volume.proofs.Tallies.{all-counted, apart, in-list, list-rises, health-most, health-full}
 

@@ -27,14 +27,14 @@ use Rattle.verdict.specs.Judging.{key, triple, verdictOutcome, schemeOf, judged
 use Rattle.verdict.specs.Verdict.{Verdict, whole, doubtful, lost, clashing, fits, fitsTwo, candidate, grade, judge}
 use Rattle.verdict.proofs.Prepared.{scheme-is}
 use Rattle.volume.specs.declared.Counts.{Counts}
-use Rattle.volume.specs.Answers.{isWhole, isDoubtful, isClashing, isLost}
+use Rattle.history.specs.Answers.{isWhole, isDoubtful, isClashing, isLost}
 use Rattle.volume.specs.Lent.{Within, placesOf, verdictNumber}
 use Rattle.volume.specs.Survey.{tally, listed, health, countsOf, written, Report, counted, refused, surveyRules, verdictAt, surveyed, settled, surveyOutcome, Room, verdictBy, Tells, addIf, counting, CountsOne, ListsOne}
-use Rattle.volume.specs.Volume.{isShape, mirror}
+use Rattle.history.specs.Volume.{isShape, mirror}
 use Rattle.block.proofs.Parts.{part-end}
 use Rattle.mode.proofs.Sizes.{key-size, size-whole, size-le}
 use Rattle.volume.proofs.Public.{count-le}
-use Rattle.volume.proofs.Refusals.{none-holds, shape-facts}
+use Rattle.history.proofs.Refusals.{none-holds, shape-facts}
 use Rattle.volume.proofs.Stages.{refusal-range, place-least}
 use Rattle.volume.proofs.Tallies.{tally-le, length-listed}
 

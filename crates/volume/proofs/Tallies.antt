@@ -11,7 +11,7 @@ use lib.ListN.{length, getD, length-append, List·getD-append}
 use lib.Seq.{getD-at}
 use Rattle.block.proofs.Lists.{false-true, clash}
 use Rattle.verdict.specs.Verdict.{Verdict, whole, doubtful, lost, clashing}
-use Rattle.volume.specs.Answers.{isWhole, isDoubtful, isClashing, isLost}
+use Rattle.history.specs.Answers.{isWhole, isDoubtful, isClashing, isLost}
 use Rattle.volume.specs.Survey.{tally, listed, health, addIf, Rises}
 
 -- ---- counts

@@ -11,8 +11,8 @@ use Rattle.verdict.specs.declared.Place.the-variants.{Local, Tag, Remote}
 use Rattle.verdict.specs.Answers.{doubtNumber}
 use Rattle.verdict.specs.Judging.{triple}
 use Rattle.verdict.specs.Verdict.{Verdict, whole, doubtful, lost, clashing, fits, judge}
-use Rattle.volume.specs.Answers.{isWhole}
-use Rattle.volume.specs.Volume.{sectorOf, writeAll, mends, Args}
+use Rattle.history.specs.Answers.{isWhole}
+use Rattle.history.specs.Volume.{sectorOf, writeAll, mends, Args}
 
 abbrev pub args : Key → ℕ → ℕ → ℕ → Args
 args k s n i = record { key = k; size = s; count = n; number = i }

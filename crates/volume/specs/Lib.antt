@@ -1,6 +1,2 @@
-pub mod Answers
-pub mod Volume
-pub mod Machine
-pub mod History
 pub mod Lent
 pub mod Survey

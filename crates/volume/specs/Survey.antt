@@ -17,11 +17,11 @@ use Rattle.verdict.specs.Verdict.{Verdict, judge}
 use Rattle.volume.specs.declared.Counts.{Counts}
 use Rattle.volume.specs.declared.Surveyed.{Surveyed}
 use Rattle.volume.specs.declared.Surveyed.the-variants.{Counted, Refused}
-use Rattle.volume.specs.Answers.{isWhole, isDoubtful, isClashing, isLost}
-use Rattle.volume.specs.History.{AnyBytes}
+use Rattle.history.specs.Answers.{isWhole, isDoubtful, isClashing, isLost}
+use Rattle.history.specs.History.{AnyBytes}
 use Rattle.volume.specs.Lent.{placesOf, verdictNumber}
-use Rattle.volume.specs.Machine.{Event, Held, gone, kept, start, Volume, AllAllowed, run, hold}
-use Rattle.volume.specs.Volume.{sectorOf, isShape, mirror}
+use Rattle.history.specs.Machine.{Event, Held, gone, kept, start, Volume, AllAllowed, run, hold}
+use Rattle.history.specs.Volume.{sectorOf, isShape, mirror}
 
 -- ---- counts and the list, from the verdict on each sector
 

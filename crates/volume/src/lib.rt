@@ -9,12 +9,11 @@ use verdict::Judged;
 use verdict::Place;
 use verdict::Refusal;
 ghost use mathlib.Core.Path.{_≡_};
-ghost use mathlib.Core.List.{_++_};
 ghost use Prim.Native.Nat.{_+_, _*_, _<_, _≤_, _%_};
 ghost use lib.ListN.{length};
 ghost use Rattle.block.specs.Bytes.{toBytes, blocksOf, part, patch, same};
 ghost use Rattle.block.specs.Value.{value};
-ghost use Rattle.verdict.specs.Answers.{firstOf, doneOption, doneNumber, judgedNumber, keyRules};
+ghost use Rattle.verdict.specs.Answers.{firstOf, doneOption, doneNumber, judgedNumber};
 ghost use Rattle.verdict.specs.Judging.{verdictOutcome, schemeOf, judgedBy};
 ghost use Rattle.verdict.specs.Judging as C;
 ghost use Rattle.verdict.specs.Verdict.{judge};
@@ -26,79 +25,8 @@ ghost use Rattle.mode.specs.Sealing.{pad, blockwise, sides};
 ghost use Rattle.mode.specs.Transforms.{transformed};
 ghost use Rattle.volume.specs.Lent.{args, Within, placesOf, firstOutcome, secondOutcome, thirdOutcome, placeNamed, mendOutcome};
 ghost use Rattle.volume.specs.Survey.{listRules, surveyRules, Room, verdictAt, verdictBy, Tells, CountsOne, ListsOne, health, counted, surveyed, reportOf, surveyOutcome};
-ghost use Rattle.volume.specs.Volume.{mirror, outcome, readOutcome};
-ghost use Rattle.volume.specs.Volume as W;
-
-// Whether n is a count and images of l, g and r bytes are those of n sectors of s bytes.
-fn fits_shape(s: usize, n: usize, l: usize, g: usize, r: usize) -> bool
-    requires { ⌜ s ≤ 4096 ⌝ }
-    ensures { λ b. ⌜ b ≡ W.shape s n l g r ⌝ }
-{
-    if n < 1 {
-        return false;
-    }
-    if 65536 < n {
-        return false;
-    }
-    if l != n * s {
-        return false;
-    }
-    if r != n * s {
-        return false;
-    }
-    g == n * 16
-}
-
-// Refusals 2, 8 and 9.
-fn check_shape(s: usize, n: usize, i: usize, l: usize, g: usize, r: usize) -> Done
-    ensures { λ d. ⌜ firstOf (W.shapeRules s n i (W.shape s n l g r)) ≡ doneOption d ⌝ }
-{
-    if verdict::is_size(s) {
-        if fits_shape(s, n, l, g, r) {
-            if i < n {
-                return Done::Done;
-            }
-            return Done::Refused(Refusal::SectorNumber);
-        }
-        return Done::Refused(Refusal::VolumeShape);
-    }
-    Done::Refused(Refusal::SectorSize)
-}
-
-// Refusals 1, 2, 8 and 9 of a call on sector i.
-fn check(key: &[u8], s: usize, n: usize, i: usize, l: usize, g: usize, r: usize) -> Done
-    ensures { λ d. ⌜ firstOf (keyRules (C.key (now (key .entry))) ++ W.shapeRules s n i (W.shape s n l g r)) ≡ doneOption d ⌝ }
-{
-    let keyed = verdict::check_key(key);
-    match keyed {
-        Done::Done => check_shape(s, n, i, l, g, r),
-        Done::Refused(f) => Done::Refused(f),
-    }
-}
-
-// These, and 3 for a plaintext or an output of p bytes.
-fn check_with(
-    key: &[u8],
-    s: usize,
-    n: usize,
-    i: usize,
-    l: usize,
-    g: usize,
-    r: usize,
-    p: usize,
-) -> Done
-    ensures { λ d. ⌜ firstOf ((keyRules (C.key (now (key .entry))) ++ W.shapeRules s n i (W.shape s n l g r)) ++ W.lengthRules p s) ≡ doneOption d ⌝ }
-{
-    let checked = check(key, s, n, i, l, g, r);
-    match checked {
-        Done::Done => if p == s {
-            Done::Done
-        } else {
-            Done::Refused(Refusal::OtherLength)
-        },
-        Done::Refused(f) => Done::Refused(f),
-    }
-}
+ghost use Rattle.history.specs.Volume.{mirror, outcome, readOutcome};
+ghost use Rattle.history.specs.Volume as W;
 
 // Judges sector i of the images with a prepared key.
 fn judge_part(
@@ -568,7 +496,7 @@ pub fn first_stage(
 ) -> Done
     ensures { λ r. ⌜ outcome (C.triple (now (local .entry)) (now (tags .entry)) (now (remote .entry))) (args (C.key (now (key .entry))) s n i) (W.first (now (p .entry))) ≡ (doneNumber r, C.triple (now (local .exit)) (now (tags .entry)) (now (remote .entry))) ⌝ }
 {
-    let checked = check_with(key, s, n, i, local.len(), tags.len(), remote.len(), p.len());
+    let checked = history::check_with(key, s, n, i, local.len(), tags.len(), remote.len(), p.len());
     match checked {
         Done::Done => first_checked(key, p, i, local, tags, remote),
         Done::Refused(f) => Done::Refused(f),
@@ -588,7 +516,7 @@ pub fn second_stage(
 ) -> Done
     ensures { λ r. ⌜ outcome (C.triple (now (local .entry)) (now (tags .entry)) (now (remote .entry))) (args (C.key (now (key .entry))) s n i) (W.second (now (p .entry))) ≡ (doneNumber r, C.triple (now (local .entry)) (now (tags .exit)) (now (remote .entry))) ⌝ }
 {
-    let checked = check_with(key, s, n, i, local.len(), tags.len(), remote.len(), p.len());
+    let checked = history::check_with(key, s, n, i, local.len(), tags.len(), remote.len(), p.len());
     match checked {
         Done::Done => second_checked(key, p, i, local, tags, remote),
         Done::Refused(f) => Done::Refused(f),
@@ -608,7 +536,7 @@ pub fn third_stage(
 ) -> Done
     ensures { λ r. ⌜ outcome (C.triple (now (local .entry)) (now (tags .entry)) (now (remote .entry))) (args (C.key (now (key .entry))) s n i) (W.third (now (p .entry))) ≡ (doneNumber r, C.triple (now (local .entry)) (now (tags .entry)) (now (remote .exit))) ⌝ }
 {
-    let checked = check_with(key, s, n, i, local.len(), tags.len(), remote.len(), p.len());
+    let checked = history::check_with(key, s, n, i, local.len(), tags.len(), remote.len(), p.len());
     match checked {
         Done::Done => third_checked(key, p, i, local, tags, remote),
         Done::Refused(f) => Done::Refused(f),
@@ -628,7 +556,7 @@ pub fn read(
 ) -> Judged
     ensures { λ r. ⌜ readOutcome (C.triple (now (local .entry)) (now (tags .entry)) (now (remote .entry))) (args (C.key (now (key .entry))) s n i) (now (out .entry)) ≡ (judgedNumber r, now (out .exit)) ⌝ }
 {
-    let checked = check_with(
+    let checked = history::check_with(
         key,
         s,
         n,
@@ -656,7 +584,7 @@ pub fn mend(
 ) -> Judged
     ensures { λ r. ⌜ outcome (C.triple (now (local .entry)) (now (tags .entry)) (now (remote .entry))) (args (C.key (now (key .entry))) s n i) W.mend ≡ (judgedNumber r, C.triple (now (local .exit)) (now (tags .exit)) (now (remote .exit))) ⌝ }
 {
-    let checked = check(key, s, n, i, local.len(), tags.len(), remote.len());
+    let checked = history::check(key, s, n, i, local.len(), tags.len(), remote.len());
     match checked {
         Done::Done => mend_checked(key, s, i, local, tags, remote),
         Done::Refused(f) => Judged::Refused(f),
@@ -675,7 +603,7 @@ pub fn blank(
 ) -> Done
     ensures { λ r. ⌜ outcome (C.triple (now (local .entry)) (now (tags .entry)) (now (remote .entry))) (args (C.key (now (key .entry))) s n i) W.blank ≡ (doneNumber r, C.triple (now (local .exit)) (now (tags .exit)) (now (remote .exit))) ⌝ }
 {
-    let checked = check(key, s, n, i, local.len(), tags.len(), remote.len());
+    let checked = history::check(key, s, n, i, local.len(), tags.len(), remote.len());
     match checked {
         Done::Done => {
             let zeros = [0u8; 4096];
@@ -706,7 +634,7 @@ fn check_list(s: usize, n: usize, l: usize, g: usize, r: usize, room: usize) -> 
     ensures { λ d. ⌜ firstOf (listRules s n (W.shape s n l g r) room) ≡ doneOption d ⌝ }
 {
     if verdict::is_size(s) {
-        if fits_shape(s, n, l, g, r) {
+        if history::fits_shape(s, n, l, g, r) {
             if room < n {
                 return Done::Refused(Refusal::ListLength);
             }

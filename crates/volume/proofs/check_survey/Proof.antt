@@ -3,7 +3,7 @@ use Rattle.verdict.specs.Answers.{doneOption}
 use Rattle.verdict.specs.Answers.{keyRules}
 use Rattle.verdict.specs.Judging.{key}
 use Rattle.verdict.proofs.Rules.{first-none, first-some}
-use Rattle.volume.specs.Volume.{shape}
+use Rattle.history.specs.Volume.{shape}
 use Rattle.volume.specs.Survey.{listRules}
 use borrow.Author.Needs.{needs}
 use Rattle.volume.proofs.check_survey.Statement.{statement}

@@ -2,7 +2,7 @@ use mathlib.Core.Path.{ap, _∙_}
 use lib.ListN.{length}
 use Rattle.verdict.specs.Answers.{doneOption}
 use Rattle.verdict.specs.Judging.{key, triple}
-use Rattle.volume.specs.Volume.{isShape}
+use Rattle.history.specs.Volume.{isShape}
 use Rattle.volume.proofs.Surveying.{has-room, survey-passes, survey-refused}
 use borrow.Author.Needs.{needs}
 use Rattle.volume.proofs.survey.Statement.{statement}

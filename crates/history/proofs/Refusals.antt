@@ -13,10 +13,10 @@ use Rattle.block.specs.Bytes.{Plain}
 use Rattle.mode.specs.Sealing.{Triple, Key}
 use Rattle.mode.specs.Scheme.{Place, local, tag, remote, on, wide, isKey, isSize, Scheme}
 use Rattle.verdict.specs.Answers.{Rule, rule, firstOf}
-use Rattle.volume.specs.Answers.{refused, reply}
-use Rattle.volume.specs.Volume.{Args, Call, blank, first, second, third, mend, read, shape, isShape, checks, lengths, early, late, result, sector, sealing, refusal, answer}
-use Rattle.volume.specs.Machine.{Images, Lent}
-use Rattle.volume.specs.History.{AnyBytes}
+use Rattle.history.specs.Answers.{refused, reply}
+use Rattle.history.specs.Volume.{Args, Call, blank, first, second, third, mend, read, shape, isShape, checks, lengths, early, late, result, sector, sealing, refusal, answer}
+use Rattle.history.specs.Machine.{Images, Lent}
+use Rattle.history.specs.History.{AnyBytes}
 use Rattle.block.proofs.Lists.{and-left, and-right}
 use Rattle.verdict.proofs.Rules.{cond-none, only-rule, first-none, first-some, none-left, none-right}
 

@@ -1,10 +1,10 @@
 use native.Mathlib.Omega.{arith}
 use borrow.Author.Tests.{eq-eqb, ne-eqb, le-leb, lt-leb}
-use Rattle.volume.specs.Volume.{shape}
-use Rattle.volume.proofs.Ranges.{product-le}
+use Rattle.history.specs.Volume.{shape}
+use Rattle.history.proofs.Ranges.{product-le}
 use borrow.Author.Needs.{needs}
-use Rattle.volume.proofs.fits_shape.Statement.{statement}
-use Rattle.volume.proofs.fits_shape.Tie as tie
+use Rattle.history.proofs.fits_shape.Statement.{statement}
+use Rattle.history.proofs.fits_shape.Tie as tie
 
 returns : tie.Need-returns
 unfolding shape

@@ -2,9 +2,9 @@
 use Rattle.mode.specs.Scheme.{Lawful, Sound, scheme}
 use Rattle.mode.specs.Sealing.{tweak}
 use Rattle.mode.proofs.Laws.{sound}
-use Rattle.volume.specs.History.{Demand3}
-use Rattle.volume.specs.Volume.{mirror}
-use Rattle.volume.proofs.History.{history-from, history, history-any}
+use Rattle.history.specs.History.{Demand3}
+use Rattle.history.specs.Volume.{mirror}
+use Rattle.history.proofs.History.{history-from, history, history-any}
 
 -- an address is one tweak among others
 pub mirror-sound : Sound mirror

@@ -11,16 +11,16 @@ use Rattle.mode.specs.Sealing.{Triple, Key}
 use Rattle.mode.specs.Scheme.{Place, local, tag, Scheme, Sector, Lawful, Sound}
 use Rattle.verdict.specs.Verdict.{Fits, FitsTwo, Verdict, whole, doubtful, lost, clashing, Means, fits, judge}
 use Rattle.verdict.specs.Answers.{firstOf}
-use Rattle.volume.specs.Answers.{Answer, refused, done, gives, found, reply, isWhole, isLost, isClashing, unjudged, judgeAnswer}
-use Rattle.volume.specs.Volume.{Args, Call, blank, first, second, third, mend, read, late, mendAnswer, result, sector, sealing, refusal, answer}
-use Rattle.volume.specs.Machine.{finished, Held, gone, kept, State, Volume, Images, leavesCall}
-use Rattle.volume.specs.History.{Proper, at, own, Sure, Reads, clashes, fits-too, fits-not, Unsure, Found, Promise, Promised, Agree, AnyBytes, Agrees}
+use Rattle.history.specs.Answers.{Answer, refused, done, gives, found, reply, isWhole, isLost, isClashing, unjudged, judgeAnswer}
+use Rattle.history.specs.Volume.{Args, Call, blank, first, second, third, mend, read, late, mendAnswer, result, sector, sealing, refusal, answer}
+use Rattle.history.specs.Machine.{finished, Held, gone, kept, State, Volume, Images, leavesCall}
+use Rattle.history.specs.History.{Proper, at, own, Sure, Reads, clashes, fits-too, fits-not, Unsure, Found, Promise, Promised, Agree, AnyBytes, Agrees}
 use Rattle.block.proofs.Lists.{same-eq, ne-same}
 use Rattle.verdict.proofs.JudgeExact.{one-for-all, judge-means}
-use Rattle.volume.proofs.Refusals.{passed, refusal-late, answer-late}
-use Rattle.volume.proofs.Sector.{some-inj, agree-two, agree-doubtful, judge-sure, whole-accepted}
-use Rattle.volume.proofs.Images.{any-bytes, sector-images, passed-lawful, first-landed}
-use Rattle.volume.proofs.Events.{args, takes-args, call-others}
+use Rattle.history.proofs.Refusals.{passed, refusal-late, answer-late}
+use Rattle.history.proofs.Sector.{some-inj, agree-two, agree-doubtful, judge-sure, whole-accepted}
+use Rattle.history.proofs.Images.{any-bytes, sector-images, passed-lawful, first-landed}
+use Rattle.history.proofs.Events.{args, takes-args, call-others}
 
 -- ---- answers
 

@@ -7,13 +7,13 @@ use Prim.Native.Nat.{ℕ}
 use native.Mathlib.Decide.{ℕ-discrete}
 use Rattle.mode.specs.Sealing.{Triple, Key}
 use Rattle.mode.specs.Scheme.{Place, Scheme, Sound}
-use Rattle.volume.specs.Volume.{Args, Call, refusal}
-use Rattle.volume.specs.Machine.{Fate, Event, call, damage, Held, gone, hurt, State, put, machine, start, Volume, Images, leavesCall, leaves, seen, Allowed, AllAllowed, run, hold}
-use Rattle.volume.specs.History.{at, own, Promise, Promised, Agree, AnyBytes, Agrees, HistoryFrom, History, HistoryAny}
-use Rattle.volume.proofs.Refusals.{accepted-images}
-use Rattle.volume.proofs.Images.{any-bytes, bytes-write, leaves-refused}
-use Rattle.volume.proofs.Events.{put-same, put-other, machine-refused, event-step, list-step}
-use Rattle.volume.proofs.Promises.{promised-by, promised}
+use Rattle.history.specs.Volume.{Args, Call, refusal}
+use Rattle.history.specs.Machine.{Fate, Event, call, damage, Held, gone, hurt, State, put, machine, start, Volume, Images, leavesCall, leaves, seen, Allowed, AllAllowed, run, hold}
+use Rattle.history.specs.History.{at, own, Promise, Promised, Agree, AnyBytes, Agrees, HistoryFrom, History, HistoryAny}
+use Rattle.history.proofs.Refusals.{accepted-images}
+use Rattle.history.proofs.Images.{any-bytes, bytes-write, leaves-refused}
+use Rattle.history.proofs.Events.{put-same, put-other, machine-refused, event-step, list-step}
+use Rattle.history.proofs.Promises.{promised-by, promised}
 
 -- From any state in which each kept plaintext fits every place not in doubt.
 pub history-from : (seals : Key → Scheme) → Sound seals → HistoryFrom seals

@@ -9,13 +9,13 @@ use Rattle.block.specs.Bytes.{Bytes, Plain, part, patch}
 use Rattle.mode.specs.Sealing.{Triple, Key}
 use Rattle.mode.specs.Scheme.{Place, local, tag, remote, on, wide, Scheme, Sector, Lawful, Sound}
 use Rattle.verdict.specs.Verdict.{Fits, Means, judge}
-use Rattle.volume.specs.Volume.{sectorOf, store, write, writeAll, Args, Call, first, second, third, read, writes, unless, sector, sealing, refusal, after}
-use Rattle.volume.specs.Machine.{Fate, finished, lands, Held, step, told, Images, Lent, Cuts, leavesCall}
-use Rattle.volume.specs.History.{Agree, AnyBytes}
+use Rattle.history.specs.Volume.{sectorOf, store, write, writeAll, Args, Call, first, second, third, read, writes, unless, sector, sealing, refusal, after}
+use Rattle.history.specs.Machine.{Fate, finished, lands, Held, step, told, Images, Lent, Cuts, leavesCall}
+use Rattle.history.specs.History.{Agree, AnyBytes}
 use Rattle.block.proofs.Parts.{bytes-part, bytes-patch, length-part, length-patch, part-patch, part-other}
 use Rattle.verdict.proofs.JudgeExact.{same-place, judge-means}
-use Rattle.volume.proofs.Refusals.{Common, refusal-none, accepted-passed, accepted-images, sized}
-use Rattle.volume.proofs.Sector.{on-store, on-store-other, storeAll, sectorAfter, AllPlain, writes-plain, keeps}
+use Rattle.history.proofs.Refusals.{Common, refusal-none, accepted-passed, accepted-images, sized}
+use Rattle.history.proofs.Sector.{on-store, on-store-other, storeAll, sectorAfter, AllPlain, writes-plain, keeps}
 
 -- ---- writing to a sector
 

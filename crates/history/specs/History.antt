@@ -9,9 +9,9 @@ use Rattle.mode.specs.Sealing.{Triple, Key}
 use Rattle.mode.specs.Scheme.{Place, local, on, Scheme}
 use Rattle.verdict.specs.Verdict.{Fits, FitsTwo, Means, lost}
 use Rattle.verdict.specs.Answers.{firstOf}
-use Rattle.volume.specs.Answers.{Answer, refused, gives}
-use Rattle.volume.specs.Volume.{Args, Call, first, mend, read, sectorOf, early, refusal, answer, mirror}
-use Rattle.volume.specs.Machine.{Fate, finished, Event, call, Held, gone, kept, State, start, Volume, Takes, Images, Lent, leavesCall, Allowed, AllAllowed, run, hold}
+use Rattle.history.specs.Answers.{Answer, refused, gives}
+use Rattle.history.specs.Volume.{Args, Call, first, mend, read, sectorOf, early, refusal, answer, mirror}
+use Rattle.history.specs.Machine.{Fate, finished, Event, call, Held, gone, kept, State, start, Volume, Takes, Images, Lent, leavesCall, Allowed, AllAllowed, run, hold}
 
 -- document 01's "proper" call, on sector i: it takes the volume's key, s and n, and none of the early refusals turns it away
 pub record Proper (vol : Volume) (v : Triple) (i : ℕ) (a : Args) (c : Call) : Type 0 where

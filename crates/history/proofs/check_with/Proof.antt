@@ -2,12 +2,12 @@ use mathlib.Core.Path.{ap, _∙_}
 use Rattle.verdict.specs.Answers.{doneOption, keyRules}
 use Rattle.verdict.specs.Judging.{key}
 use Rattle.verdict.proofs.Rules.{first-none, first-some}
-use Rattle.volume.specs.Volume.{shape, shapeRules, lengthRules}
+use Rattle.history.specs.Volume.{shape, shapeRules, lengthRules}
 use mathlib.Core.List.{_++_}
 use borrow.Author.Tests.{eq-eqb, ne-eqb}
 use borrow.Author.Needs.{needs}
-use Rattle.volume.proofs.check_with.Statement.{statement}
-use Rattle.volume.proofs.check_with.Tie as tie
+use Rattle.history.proofs.check_with.Statement.{statement}
+use Rattle.history.proofs.check_with.Tie as tie
 
 check-requires : tie.Need-check-requires
 check-requires c κs = search needs

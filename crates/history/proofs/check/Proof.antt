@@ -2,10 +2,10 @@ use mathlib.Core.Path.{ap, _∙_}
 use Rattle.verdict.specs.Answers.{doneOption, keyRules}
 use Rattle.verdict.specs.Judging.{key}
 use Rattle.verdict.proofs.Rules.{first-none, first-some}
-use Rattle.volume.specs.Volume.{shape, shapeRules}
+use Rattle.history.specs.Volume.{shape, shapeRules}
 use borrow.Author.Needs.{needs}
-use Rattle.volume.proofs.check.Statement.{statement}
-use Rattle.volume.proofs.check.Tie as tie
+use Rattle.history.proofs.check.Statement.{statement}
+use Rattle.history.proofs.check.Tie as tie
 
 check-key-requires : tie.Need-check-key-requires
 check-key-requires c κs = search needs

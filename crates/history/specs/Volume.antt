@@ -11,7 +11,7 @@ use Rattle.mode.specs.Sealing.{Triple, Key, tweak}
 use Rattle.mode.specs.Scheme.{Place, local, tag, remote, on, wide, isSize, Scheme, scheme}
 use Rattle.verdict.specs.Verdict.{Verdict, whole, doubtful, lost, clashing, fits, judge}
 use Rattle.verdict.specs.Answers.{keyRules, Rule, rule, firstOf}
-use Rattle.volume.specs.Answers.{Answer, refused, done, found, reply, isWhole, unjudged, judgeAnswer, answerNumber, output}
+use Rattle.history.specs.Answers.{Answer, refused, done, found, reply, isWhole, unjudged, judgeAnswer, answerNumber, output}
 
 -- ---- three images
 

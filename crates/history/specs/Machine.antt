@@ -11,7 +11,7 @@ use Rattle.block.specs.Bytes.{Bytes, Plain}
 use Rattle.mode.specs.Sealing.{Triple, Key}
 use Rattle.mode.specs.Scheme.{Place, local, tag, remote, on, wide, Scheme}
 use Rattle.verdict.specs.Verdict.{fits}
-use Rattle.volume.specs.Volume.{Args, Call, blank, first, second, third, mend, read, write, writes, writeAll, unless, sector, sealing, refusal}
+use Rattle.history.specs.Volume.{Args, Call, blank, first, second, third, mend, read, write, writes, writeAll, unless, sector, sealing, refusal}
 
 -- ---- events
 

@@ -3,8 +3,8 @@ use native.Mathlib.Omega.{arith}
 use borrow.Author.Tests.{le-leb, lt-leb}
 use Rattle.mode.proofs.Sizes.{size-le}
 use borrow.Author.Needs.{needs}
-use Rattle.volume.proofs.check_shape.Statement.{statement}
-use Rattle.volume.proofs.check_shape.Tie as tie
+use Rattle.history.proofs.check_shape.Statement.{statement}
+use Rattle.history.proofs.check_shape.Tie as tie
 
 is-size-requires : tie.Need-is-size-requires
 is-size-requires c κs = search needs

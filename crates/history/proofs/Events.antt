@@ -8,12 +8,12 @@ use native.Mathlib.Decide.{ℕ-discrete}
 use borrow.Author.Tests.{eq-eqb, ne-eqb}
 use Rattle.mode.specs.Sealing.{Triple, Key}
 use Rattle.mode.specs.Scheme.{Place, Scheme, Sound}
-use Rattle.volume.specs.Volume.{sectorOf, write, Args, Call, sector, sealing, refusal}
-use Rattle.volume.specs.Machine.{Fate, Event, call, damage, called, turned, told, Held, step, hurt, State, put, machine, Volume, Takes, Images, Lent, Cuts, leavesCall, leaves, seen, Allowed, AllAllowed, run, hold}
-use Rattle.volume.specs.History.{at, own, Agree, AnyBytes, Agrees}
-use Rattle.volume.proofs.Refusals.{accepted-passed}
-use Rattle.volume.proofs.Sector.{keeps-hurt}
-use Rattle.volume.proofs.Images.{any-bytes, images-write, sector-write, sector-other, leaves-refused, left, held-after}
+use Rattle.history.specs.Volume.{sectorOf, write, Args, Call, sector, sealing, refusal}
+use Rattle.history.specs.Machine.{Fate, Event, call, damage, called, turned, told, Held, step, hurt, State, put, machine, Volume, Takes, Images, Lent, Cuts, leavesCall, leaves, seen, Allowed, AllAllowed, run, hold}
+use Rattle.history.specs.History.{at, own, Agree, AnyBytes, Agrees}
+use Rattle.history.proofs.Refusals.{accepted-passed}
+use Rattle.history.proofs.Sector.{keeps-hurt}
+use Rattle.history.proofs.Images.{any-bytes, images-write, sector-write, sector-other, leaves-refused, left, held-after}
 
 -- ---- the state
 

@@ -1,0 +1,9 @@
+pub mod Options
+pub mod Refusals
+pub mod Sector
+pub mod Images
+pub mod Events
+pub mod Promises
+pub mod History
+pub mod Demand3
+pub mod Ranges

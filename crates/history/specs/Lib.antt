@@ -1,0 +1,4 @@
+pub mod Answers
+pub mod Volume
+pub mod Machine
+pub mod History

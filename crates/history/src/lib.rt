@@ -1,0 +1,81 @@
+// The checks that a call on a volume makes first. The definitions that they and the calls cite are in specs/, with the theorem about every
+// history of a volume (demand 3), which is proved here over those definitions, before any call.
+use verdict::Done;
+use verdict::Refusal;
+ghost use mathlib.Core.Path.{_≡_};
+ghost use mathlib.Core.List.{_++_};
+ghost use Prim.Native.Nat.{_≤_};
+ghost use Rattle.verdict.specs.Answers.{firstOf, doneOption, keyRules};
+ghost use Rattle.verdict.specs.Judging as C;
+ghost use Rattle.history.specs.Volume as W;
+
+// Whether n is a count and images of l, g and r bytes are those of n sectors of s bytes.
+pub fn fits_shape(s: usize, n: usize, l: usize, g: usize, r: usize) -> bool
+    requires { ⌜ s ≤ 4096 ⌝ }
+    ensures { λ b. ⌜ b ≡ W.shape s n l g r ⌝ }
+{
+    if n < 1 {
+        return false;
+    }
+    if 65536 < n {
+        return false;
+    }
+    if l != n * s {
+        return false;
+    }
+    if r != n * s {
+        return false;
+    }
+    g == n * 16
+}
+
+// Refusals 2, 8 and 9.
+fn check_shape(s: usize, n: usize, i: usize, l: usize, g: usize, r: usize) -> Done
+    ensures { λ d. ⌜ firstOf (W.shapeRules s n i (W.shape s n l g r)) ≡ doneOption d ⌝ }
+{
+    if verdict::is_size(s) {
+        if fits_shape(s, n, l, g, r) {
+            if i < n {
+                return Done::Done;
+            }
+            return Done::Refused(Refusal::SectorNumber);
+        }
+        return Done::Refused(Refusal::VolumeShape);
+    }
+    Done::Refused(Refusal::SectorSize)
+}
+
+// Refusals 1, 2, 8 and 9 of a call on sector i.
+pub fn check(key: &[u8], s: usize, n: usize, i: usize, l: usize, g: usize, r: usize) -> Done
+    ensures { λ d. ⌜ firstOf (keyRules (C.key (now (key .entry))) ++ W.shapeRules s n i (W.shape s n l g r)) ≡ doneOption d ⌝ }
+{
+    let keyed = verdict::check_key(key);
+    match keyed {
+        Done::Done => check_shape(s, n, i, l, g, r),
+        Done::Refused(f) => Done::Refused(f),
+    }
+}
+
+// These, and 3 for a plaintext or an output of p bytes.
+pub fn check_with(
+    key: &[u8],
+    s: usize,
+    n: usize,
+    i: usize,
+    l: usize,
+    g: usize,
+    r: usize,
+    p: usize,
+) -> Done
+    ensures { λ d. ⌜ firstOf ((keyRules (C.key (now (key .entry))) ++ W.shapeRules s n i (W.shape s n l g r)) ++ W.lengthRules p s) ≡ doneOption d ⌝ }
+{
+    let checked = check(key, s, n, i, l, g, r);
+    match checked {
+        Done::Done => if p == s {
+            Done::Done
+        } else {
+            Done::Refused(Refusal::OtherLength)
+        },
+        Done::Refused(f) => Done::Refused(f),
+    }
+}
