@@ -1,0 +1,228 @@
+/*
+ * mirror.h: the double ciphertext mirror (libmirror.a, x86-64 Linux; C99 or C++).
+ *
+ * A SECTOR is kept in three places: a local sector, a tag and a remote sector. Sealing makes all three from a plaintext, under a key and
+ * an address. Any two of them give the plaintext back, so damage to one place is found and can be mended.
+ *
+ *   key        32 bytes: the hash key h (16 bytes), then the AES-128 key K (16 bytes)
+ *   sector     s bytes, s a multiple of 16 from 16 to 4,096; the plaintext, the local and the remote sector all have s bytes
+ *   tag        16 bytes
+ *   address    any 64-bit number; a sector is judged at the address that it was sealed at
+ *   volume     n sectors, n from 1 to 65,536, in three images: local (n*s bytes), tags (n*16 bytes), remote (n*s bytes).
+ *              Sector number i, from 0, has address i: its parts begin at i*s, i*16 and i*s.
+ *
+ * SECRETS. Local and remote sector together give the plaintext WITHOUT the key (mirror_combine): whoever may read both needs no key. One
+ * key, address and plaintext always give the same bytes. A call does not wipe what it leaves on the stack, and AES looks up a table by
+ * secret bytes, so its time may depend on them. What an attacker can guess or forge is no claim of this library.
+ *
+ * ANSWERS. Each call returns one number: 0 or MIRROR_DOUBTFUL_... when it is done, or a refusal from 1 to 11. The refusals are checked in
+ * the order in which they stand at the call, and the first that holds is the answer. A refused call has changed none of the bytes that
+ * it was lent. An output is written when the answer is certain, and all of it. Always look at the answer: after a refusal the output is
+ * what it was before.
+ *
+ * POINTERS. Each buffer goes as a pointer and its length (size_t), in elements. A call has no way to check these, the caller sees to it:
+ *   - a pointer is valid for its length, and the length in bytes is at most PTRDIFF_MAX;
+ *   - it may be NULL only if its length is 0; `counts` has no length and is never NULL;
+ *   - `list` is aligned for uint32_t and `counts` for uint64_t; bytes need no alignment;
+ *   - a buffer that the call may write (one without const) overlaps no other buffer of the call, not even in part. What is proved of a
+ *     call says nothing about overlaps. Buffers that are only read may overlap each other.
+ * Any lengths and numbers are safe otherwise: wrong ones are refused.
+ *
+ * MEMORY AND THREADS. A call keeps no state between calls, allocates nothing and does no input or output. It needs memcpy and memset from
+ * the C library and nothing else. It uses less than 20 KiB of stack (MIRROR_STACK_BYTES; measured, not proved). Calls may run at once in
+ * several threads if no buffer that one of them may write is lent to another.
+ *
+ * POWER CUTS. The calls on a volume work on images in memory. What is promised about power cuts holds if the caller sees to this:
+ *   - what a call wrote has reached the medium before the next call on that sector begins;
+ *   - after a cut a tag whose write had begun is the old one or the new one, never a mixture. A half-written sector may hold anything.
+ */
+#ifndef MIRROR_H
+#define MIRROR_H
+
+#include <stddef.h>
+#include <stdint.h>
+
+/* Sizes, in bytes, and the most sectors of a volume. */
+#define MIRROR_KEY_BYTES 32
+#define MIRROR_TAG_BYTES 16
+#define MIRROR_LEAST_SECTOR 16
+#define MIRROR_MOST_SECTOR 4096
+#define MIRROR_MOST_SECTORS 65536
+#define MIRROR_STACK_BYTES 20480
+
+/* Sides. */
+#define MIRROR_LOCAL 0u
+#define MIRROR_REMOTE 1u
+
+/* Answers of a call that is done. */
+#define MIRROR_DONE 0u               /* a call that only writes: it has written */
+#define MIRROR_WHOLE 0u              /* judge, read, mend: one plaintext fits all three places */
+#define MIRROR_DOUBTFUL_LOCAL 0x81u  /* judge, read, mend: exactly one plaintext fits two places, and the local sector does not fit it */
+#define MIRROR_DOUBTFUL_TAG 0x82u    /* the same, and the tag does not fit it */
+#define MIRROR_DOUBTFUL_REMOTE 0x83u /* the same, and the remote sector does not fit it */
+
+/* Refusals, with what to do. */
+#define MIRROR_KEY_LENGTH 1u    /* the key does not have 32 bytes: give h and then K */
+#define MIRROR_SECTOR_SIZE 2u   /* the size is not a multiple of 16 from 16 to 4,096: give the size that the sector was made with */
+#define MIRROR_OTHER_LENGTH 3u  /* a plaintext, sector, tag or output has another length than it must have: give s bytes, 16 for a tag */
+#define MIRROR_UNKNOWN_SIDE 4u  /* the side is neither MIRROR_LOCAL nor MIRROR_REMOTE: name one of them */
+#define MIRROR_NONE_FITS 5u     /* no plaintext fits this side and this tag: try the other side, or judge if both are there */
+#define MIRROR_LOST 6u          /* no plaintext fits two places: check the key on other sectors; then blank, and write from a backup */
+#define MIRROR_CLASHING 7u      /* more than one plaintext fits two places: repeat the third stage if a write was under way; otherwise
+                                   open both sides, choose, blank, and write the choice */
+#define MIRROR_VOLUME_SHAPE 8u  /* n is not 1 to 65,536, or an image has another length than s and n ask for: check s, n and the images */
+#define MIRROR_SECTOR_NUMBER 9u /* the number is not below n: sectors count from 0 */
+#define MIRROR_STAGE_ORDER 10u  /* this stage is not due: read the sector, mend it if doubtful, and begin with the first stage */
+#define MIRROR_LIST_LENGTH 11u  /* the list is shorter than n: lend one entry for each sector */
+
+/* What a survey puts into counts[]: four counts that add up to n, and the health, which is whole * 1000 / n, rounded down. */
+#define MIRROR_COUNT_WHOLE 0
+#define MIRROR_COUNT_DOUBTFUL 1
+#define MIRROR_COUNT_CLASHING 2
+#define MIRROR_COUNT_LOST 3
+#define MIRROR_COUNT_HEALTH 4
+#define MIRROR_COUNTS 5
+
+/* An answer that nobody looks at is a mistake, and the compiler says so where it can. */
+#if defined(__GNUC__)
+#define MIRROR_ANSWER __attribute__((warn_unused_result)) uint32_t
+#else
+#define MIRROR_ANSWER uint32_t
+#endif
+
+#ifdef __cplusplus
+extern "C" {
+#endif
+
+/* ---- one sector. Mind the order: seal takes local, remote, tag; judge takes local, tag, remote. */
+
+/*
+ * Seals the plaintext under key and address: writes local, remote and tag.
+ *   1 key_len is not 32
+ *   2 plain_len is not a sector size
+ *   3 local_len or remote_len is not plain_len, or tag_len is not 16
+ *   MIRROR_DONE
+ */
+MIRROR_ANSWER mirror_seal(const uint8_t *key, size_t key_len, uint64_t address, const uint8_t *plain, size_t plain_len, uint8_t *local,
+                          size_t local_len, uint8_t *remote, size_t remote_len, uint8_t *tag, size_t tag_len);
+
+/*
+ * Judges a sector and writes its plaintext to out. It mends nothing: after MIRROR_DOUBTFUL_... seal the plaintext again, and write the
+ * place that the answer names.
+ *   1 key_len is not 32
+ *   2 local_len is not a sector size
+ *   3 remote_len or out_len is not local_len, or tag_len is not 16
+ *   6 lost
+ *   7 clashing
+ *   MIRROR_WHOLE, MIRROR_DOUBTFUL_LOCAL, MIRROR_DOUBTFUL_TAG, MIRROR_DOUBTFUL_REMOTE: out has the plaintext
+ */
+MIRROR_ANSWER mirror_judge(const uint8_t *key, size_t key_len, uint64_t address, const uint8_t *local, size_t local_len, const uint8_t *tag,
+                           size_t tag_len, const uint8_t *remote, size_t remote_len, uint8_t *out, size_t out_len);
+
+/*
+ * Opens one side with the tag, where the other side is not at hand: writes to out the one plaintext that fits both.
+ *   1 key_len is not 32
+ *   2 sector_len is not a sector size
+ *   3 tag_len is not 16, or out_len is not sector_len
+ *   4 side is neither MIRROR_LOCAL nor MIRROR_REMOTE
+ *   5 no plaintext fits both
+ *   MIRROR_DONE
+ */
+MIRROR_ANSWER mirror_open(const uint8_t *key, size_t key_len, uint64_t address, uint32_t side, const uint8_t *sector, size_t sector_len,
+                          const uint8_t *tag, size_t tag_len, uint8_t *out, size_t out_len);
+
+/*
+ * Rebuilds the other side: `side` says which one `sector` is, and out is given the sector of the side that is missing. Refuses as
+ * mirror_open does.
+ *   1, 2, 3, 4, 5 as mirror_open
+ *   MIRROR_DONE
+ */
+MIRROR_ANSWER mirror_rebuild(const uint8_t *key, size_t key_len, uint64_t address, uint32_t side, const uint8_t *sector, size_t sector_len,
+                             const uint8_t *tag, size_t tag_len, uint8_t *out, size_t out_len);
+
+/*
+ * Writes local ^ remote to out, without a key. It is the plaintext if both sides are as sealed; nothing is checked of that.
+ *   2 local_len is not a sector size
+ *   3 remote_len or out_len is not local_len
+ *   MIRROR_DONE
+ */
+MIRROR_ANSWER mirror_combine(const uint8_t *local, size_t local_len, const uint8_t *remote, size_t remote_len, uint8_t *out,
+                             size_t out_len);
+
+/* ---- a volume. All images are lent to every call, whole; a call may write only those that it takes without const. */
+
+/*
+ * Blanks one sector: seals a plaintext of s zeros into its part of all three images, whatever was there. Each sector of a new volume is
+ * blanked before its first write. A cut leaves anything in the sector: blank it again.
+ *   1 key_len is not 32
+ *   2 s is not a sector size
+ *   8 n is not 1 to 65,536, local_len or remote_len is not n*s, or tags_len is not n*16
+ *   9 number is not below n
+ *   MIRROR_DONE
+ */
+MIRROR_ANSWER mirror_blank(const uint8_t *key, size_t key_len, size_t s, size_t n, size_t number, uint8_t *local, size_t local_len,
+                           uint8_t *tags, size_t tags_len, uint8_t *remote, size_t remote_len);
+
+/*
+ * A write is three calls with the same plaintext, in this order, each done and on the medium before the next begins. Each writes only the
+ * sector's part of the one image that it takes without const. After a cut in a write: read the sector, mend it if doubtful, and see by
+ * the plaintext whether to write again. The sector gives the old plaintext until the tag is written, and the new one from then on.
+ *
+ * First stage: writes the local sector. 10 if the sector is not whole: mend it, or go by the answer that a read of it gives.
+ * Second stage: writes the tag. 10 if the plaintext does not fit the local sector: begin again with the first stage.
+ * Third stage: writes the remote sector. 10 if the plaintext does not fit both local sector and tag: begin again with the first stage.
+ *   1, 2, 8, 9 as mirror_blank
+ *   3 plain_len is not s
+ *   10 the stage is not due
+ *   MIRROR_DONE
+ */
+MIRROR_ANSWER mirror_first_stage(const uint8_t *key, size_t key_len, size_t s, size_t n, size_t number, const uint8_t *plain,
+                                 size_t plain_len, uint8_t *local, size_t local_len, const uint8_t *tags, size_t tags_len,
+                                 const uint8_t *remote, size_t remote_len);
+MIRROR_ANSWER mirror_second_stage(const uint8_t *key, size_t key_len, size_t s, size_t n, size_t number, const uint8_t *plain,
+                                  size_t plain_len, const uint8_t *local, size_t local_len, uint8_t *tags, size_t tags_len,
+                                  const uint8_t *remote, size_t remote_len);
+MIRROR_ANSWER mirror_third_stage(const uint8_t *key, size_t key_len, size_t s, size_t n, size_t number, const uint8_t *plain,
+                                 size_t plain_len, const uint8_t *local, size_t local_len, const uint8_t *tags, size_t tags_len,
+                                 uint8_t *remote, size_t remote_len);
+
+/*
+ * Reads one sector: judges it and writes its plaintext to out. It mends nothing: after MIRROR_DOUBTFUL_... call mirror_mend soon, for
+ * damage to a second place can lose the sector.
+ *   1, 2, 8, 9 as mirror_blank
+ *   3 out_len is not s
+ *   6 lost
+ *   7 clashing
+ *   MIRROR_WHOLE, MIRROR_DOUBTFUL_LOCAL, MIRROR_DOUBTFUL_TAG, MIRROR_DOUBTFUL_REMOTE: out has the plaintext
+ */
+MIRROR_ANSWER mirror_read(const uint8_t *key, size_t key_len, size_t s, size_t n, size_t number, const uint8_t *local, size_t local_len,
+                          const uint8_t *tags, size_t tags_len, const uint8_t *remote, size_t remote_len, uint8_t *out, size_t out_len);
+
+/*
+ * Mends one sector: writes the doubtful place anew, as the one plaintext seals, and nothing if the sector is whole. The answer is what it
+ * found before; afterwards the sector is whole. Where it refuses 6 or 7 it has written nothing. After a cut: mend again.
+ *   1, 2, 8, 9 as mirror_blank
+ *   6 lost
+ *   7 clashing
+ *   MIRROR_WHOLE: nothing is written
+ *   MIRROR_DOUBTFUL_LOCAL, MIRROR_DOUBTFUL_TAG, MIRROR_DOUBTFUL_REMOTE: that place is written
+ */
+MIRROR_ANSWER mirror_mend(const uint8_t *key, size_t key_len, size_t s, size_t n, size_t number, uint8_t *local, size_t local_len,
+                          uint8_t *tags, size_t tags_len, uint8_t *remote, size_t remote_len);
+
+/*
+ * Surveys a volume: judges every sector and writes the five counts. The number of each sector that is not whole stands once at the front
+ * of list, in rising order: n - counts[MIRROR_COUNT_WHOLE] entries. Those behind are untouched. list_len counts entries, not bytes.
+ *   1, 2, 8 as mirror_blank
+ *   11 list_len is below n
+ *   MIRROR_DONE: read each listed sector to learn its verdict; mend it if it is doubtful
+ */
+MIRROR_ANSWER mirror_survey(const uint8_t *key, size_t key_len, size_t s, size_t n, const uint8_t *local, size_t local_len,
+                            const uint8_t *tags, size_t tags_len, const uint8_t *remote, size_t remote_len, uint32_t *list,
+                            size_t list_len, uint64_t counts[MIRROR_COUNTS]);
+
+#ifdef __cplusplus
+}
+#endif
+
+#endif

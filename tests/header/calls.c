@@ -1,0 +1,521 @@
+/*
+ * Every call of mirror.h, every answer, and every byte that is lent: what a call writes must be what is due, and the rest as it was.
+ * Compiles as C99 and as C++11. Each buffer is on the heap with its exact length, so that valgrind sees a step beside it.
+ */
+#include "mirror.h"
+
+#include <stdio.h>
+#include <stdlib.h>
+#include <string.h>
+
+enum { SIZE = 32, COUNT = 3, ENTRIES = COUNT + 1, BUFFERS = 11 };
+static const uint64_t ADDRESS = 0x0102030405060708;
+
+/* The sealing of the bytes 80 to 9f (hexadecimal) under the key 00 to 1f at ADDRESS, by the independent implementation. */
+static const uint8_t STORED_LOCAL[SIZE] = {0x8f, 0xb4, 0x0d, 0xfc, 0x03, 0xdd, 0x5c, 0xe2, 0x3b, 0x20, 0xab, 0x42, 0x10, 0x44, 0x72, 0x01,
+                                           0xf4, 0xbe, 0x61, 0x01, 0x7a, 0x96, 0xb5, 0xda, 0x7d, 0x3c, 0x4e, 0xf0, 0x26, 0x7e, 0x1d, 0x13};
+static const uint8_t STORED_REMOTE[SIZE] = {0x0f, 0x35, 0x8f, 0x7f, 0x87, 0x58, 0xda, 0x65, 0xb3, 0xa9, 0x21, 0xc9, 0x9c, 0xc9, 0xfc, 0x8e,
+                                            0x64, 0x2f, 0xf3, 0x92, 0xee, 0x03, 0x23, 0x4d, 0xe5, 0xa5, 0xd4, 0x6b, 0xba, 0xe3, 0x83, 0x8c};
+static const uint8_t STORED_TAG[MIRROR_TAG_BYTES] = {0xdf, 0x77, 0x7e, 0xb3, 0xbd, 0xba, 0xf5, 0x31,
+                                                     0xfd, 0x6e, 0x59, 0x59, 0xb4, 0x27, 0x3a, 0xac};
+
+/* ---- checks */
+
+static unsigned checks;
+static unsigned char met[256];
+
+static void check(int holds, int line, const char *text, const char *what)
+{
+    checks++;
+    if (!holds) {
+        fprintf(stderr, "calls: line %d: %s: %s\n", line, text, what);
+        exit(1);
+    }
+}
+
+static void answers(uint32_t due, uint32_t answer, int line, const char *call)
+{
+    char what[64];
+    sprintf(what, "answers %lx and not %lx (hexadecimal)", (unsigned long)answer, (unsigned long)due);
+    check(answer == due, line, call, what);
+    met[answer & 0xff] = 1;
+}
+
+/* ---- the buffers that are lent, and what must be in them */
+
+typedef struct {
+    const char *name;
+    uint8_t *at, *due;
+    size_t length;
+} Lent;
+
+static Lent lent[BUFFERS];
+static size_t lents;
+
+static uint8_t *heap(size_t length)
+{
+    uint8_t *at = (uint8_t *)malloc(length);
+    if (at == NULL) {
+        fprintf(stderr, "calls: no memory\n");
+        exit(1);
+    }
+    memset(at, 0x5a, length);
+    return at;
+}
+
+static uint8_t *lend(const char *name, size_t length)
+{
+    Lent *l = &lent[lents++];
+    l->name = name;
+    l->at = heap(length);
+    l->due = heap(length);
+    l->length = length;
+    return l->at;
+}
+
+static uint8_t *key, *plain, *local, *remote, *tag, *out, *locals, *tags, *remotes, *list_bytes, *count_bytes;
+static uint32_t *list;
+static uint64_t *counts;
+
+/* From here on every buffer is due as it is now. The output has bytes that no call gives, so that a call that does not write it shows. */
+static void keep(void)
+{
+    size_t i;
+    memset(out, 0xee, SIZE);
+    for (i = 0; i < lents; i++) {
+        memcpy(lent[i].due, lent[i].at, lent[i].length);
+    }
+}
+
+/* The bytes that a call was to write from `at` on are due as these. */
+static void due(const uint8_t *at, const void *bytes, size_t length)
+{
+    size_t i;
+    for (i = 0; i < lents; i++) {
+        const uintptr_t place = (uintptr_t)at - (uintptr_t)lent[i].at;
+        if (place < lent[i].length) {
+            memcpy(lent[i].due + place, bytes, length);
+        }
+    }
+}
+
+static void as_due(int line, const char *call)
+{
+    size_t i;
+    for (i = 0; i < lents; i++) {
+        char what[64];
+        sprintf(what, "leaves other bytes in %s than are due", lent[i].name);
+        check(memcmp(lent[i].at, lent[i].due, lent[i].length) == 0, line, call, what);
+    }
+}
+
+/* A call gives an answer; DUE then names what it writes, and NO_MORE says that every other byte is as before. */
+#define GIVES(answer, call) (keep(), answers(answer, call, __LINE__, #call))
+#define DUE(at, bytes, length) due(at, bytes, length)
+#define NO_MORE(call) as_due(__LINE__, call)
+#define REFUSES(refusal, call) (keep(), answers(refusal, call, __LINE__, #call), as_due(__LINE__, #call))
+
+/* ---- the arguments */
+
+#define NOTHING NULL, 0
+#define KEY key, MIRROR_KEY_BYTES
+#define PLAIN plain, SIZE
+#define LOCAL local, SIZE
+#define REMOTE remote, SIZE
+#define TAG tag, MIRROR_TAG_BYTES
+#define OUT out, SIZE
+#define LOCALS locals, COUNT *SIZE
+#define TAGS tags, COUNT *MIRROR_TAG_BYTES
+#define REMOTES remotes, COUNT *SIZE
+#define LIST list, COUNT
+
+static void lend_all(void)
+{
+    key = lend("the key", MIRROR_KEY_BYTES);
+    plain = lend("the plaintext", SIZE);
+    local = lend("the local sector", SIZE);
+    remote = lend("the remote sector", SIZE);
+    tag = lend("the tag", MIRROR_TAG_BYTES);
+    out = lend("the output", SIZE);
+    locals = lend("the local image", COUNT * SIZE);
+    tags = lend("the tag image", COUNT * MIRROR_TAG_BYTES);
+    remotes = lend("the remote image", COUNT * SIZE);
+    list_bytes = lend("the list", ENTRIES * sizeof(uint32_t));
+    count_bytes = lend("the counts", MIRROR_COUNTS * sizeof(uint64_t));
+    list = (uint32_t *)(void *)list_bytes;
+    counts = (uint64_t *)(void *)count_bytes;
+}
+
+static void fill(uint8_t *at, size_t length, unsigned first)
+{
+    size_t i;
+    for (i = 0; i < length; i++) {
+        at[i] = (uint8_t)(first + i);
+    }
+}
+
+/* Puts the sealing of `plain` at this address into local, remote and tag. */
+static void sealed(uint64_t address)
+{
+    answers(MIRROR_DONE, mirror_seal(KEY, address, PLAIN, LOCAL, REMOTE, TAG), __LINE__, "sealing");
+}
+
+/* The plaintexts (h, 0) and (h, 1) have one tag: the local sector of the second with the remote sector of the first clash. */
+static void clash(uint64_t address)
+{
+    uint8_t first[SIZE], first_tag[MIRROR_TAG_BYTES];
+    memset(plain, 0, SIZE);
+    memcpy(plain, key, MIRROR_TAG_BYTES);
+    sealed(address);
+    memcpy(first, remote, SIZE);
+    memcpy(first_tag, tag, MIRROR_TAG_BYTES);
+    plain[SIZE - 1] = 1;
+    sealed(address);
+    check(memcmp(first_tag, tag, MIRROR_TAG_BYTES) == 0, __LINE__, "row (h)", "the tags differ");
+    memcpy(remote, first, SIZE);
+}
+
+/* ---- one sector */
+
+static void seals(void)
+{
+    GIVES(MIRROR_DONE, mirror_seal(KEY, ADDRESS, PLAIN, LOCAL, REMOTE, TAG));
+    DUE(local, STORED_LOCAL, SIZE);
+    DUE(remote, STORED_REMOTE, SIZE);
+    DUE(tag, STORED_TAG, MIRROR_TAG_BYTES);
+    NO_MORE("mirror_seal");
+    REFUSES(MIRROR_KEY_LENGTH, mirror_seal(NOTHING, ADDRESS, NOTHING, NOTHING, NOTHING, NOTHING));
+    REFUSES(MIRROR_KEY_LENGTH, mirror_seal(key, 31, ADDRESS, PLAIN, LOCAL, REMOTE, TAG));
+    REFUSES(MIRROR_SECTOR_SIZE, mirror_seal(KEY, ADDRESS, NOTHING, NOTHING, NOTHING, NOTHING));
+    REFUSES(MIRROR_SECTOR_SIZE, mirror_seal(KEY, ADDRESS, plain, 15, local, 15, remote, 15, TAG));
+    REFUSES(MIRROR_OTHER_LENGTH, mirror_seal(KEY, ADDRESS, PLAIN, NOTHING, REMOTE, TAG));
+    REFUSES(MIRROR_OTHER_LENGTH, mirror_seal(KEY, ADDRESS, PLAIN, LOCAL, remote, 16, TAG));
+    REFUSES(MIRROR_OTHER_LENGTH, mirror_seal(KEY, ADDRESS, PLAIN, LOCAL, REMOTE, tag, 15));
+    puts("calls: mirror_seal");
+}
+
+/* Judges with one byte of a place changed. */
+static void judges_damaged(uint8_t *place, uint32_t doubtful)
+{
+    place[3] ^= 0x10;
+    GIVES(doubtful, mirror_judge(KEY, ADDRESS, LOCAL, TAG, REMOTE, OUT));
+    DUE(out, plain, SIZE);
+    NO_MORE("mirror_judge");
+    place[3] ^= 0x10;
+}
+
+static void judges(void)
+{
+    GIVES(MIRROR_WHOLE, mirror_judge(KEY, ADDRESS, LOCAL, TAG, REMOTE, OUT));
+    DUE(out, plain, SIZE);
+    NO_MORE("mirror_judge");
+    judges_damaged(local, MIRROR_DOUBTFUL_LOCAL);
+    judges_damaged(tag, MIRROR_DOUBTFUL_TAG);
+    judges_damaged(remote, MIRROR_DOUBTFUL_REMOTE);
+    REFUSES(MIRROR_LOST, mirror_judge(KEY, ADDRESS + 1, LOCAL, TAG, REMOTE, OUT));
+    REFUSES(MIRROR_KEY_LENGTH, mirror_judge(NOTHING, ADDRESS, NOTHING, NOTHING, NOTHING, NOTHING));
+    REFUSES(MIRROR_SECTOR_SIZE, mirror_judge(KEY, ADDRESS, NOTHING, TAG, REMOTE, OUT));
+    REFUSES(MIRROR_OTHER_LENGTH, mirror_judge(KEY, ADDRESS, LOCAL, NOTHING, REMOTE, OUT));
+    REFUSES(MIRROR_OTHER_LENGTH, mirror_judge(KEY, ADDRESS, LOCAL, TAG, NOTHING, OUT));
+    REFUSES(MIRROR_OTHER_LENGTH, mirror_judge(KEY, ADDRESS, LOCAL, TAG, REMOTE, NOTHING));
+    puts("calls: mirror_judge");
+}
+
+static void opens(void)
+{
+    GIVES(MIRROR_DONE, mirror_open(KEY, ADDRESS, MIRROR_LOCAL, LOCAL, TAG, OUT));
+    DUE(out, plain, SIZE);
+    NO_MORE("mirror_open");
+    GIVES(MIRROR_DONE, mirror_open(KEY, ADDRESS, MIRROR_REMOTE, REMOTE, TAG, OUT));
+    DUE(out, plain, SIZE);
+    NO_MORE("mirror_open");
+    REFUSES(MIRROR_NONE_FITS, mirror_open(KEY, ADDRESS, MIRROR_REMOTE, LOCAL, TAG, OUT));
+    REFUSES(MIRROR_UNKNOWN_SIDE, mirror_open(KEY, ADDRESS, 2, LOCAL, TAG, OUT));
+    REFUSES(MIRROR_OTHER_LENGTH, mirror_open(KEY, ADDRESS, 2, LOCAL, NOTHING, OUT));
+    REFUSES(MIRROR_OTHER_LENGTH, mirror_open(KEY, ADDRESS, 2, LOCAL, TAG, NOTHING));
+    REFUSES(MIRROR_SECTOR_SIZE, mirror_open(KEY, ADDRESS, 2, NOTHING, NOTHING, NOTHING));
+    REFUSES(MIRROR_KEY_LENGTH, mirror_open(NOTHING, ADDRESS, 2, NOTHING, NOTHING, NOTHING));
+    puts("calls: mirror_open");
+}
+
+static void rebuilds(void)
+{
+    GIVES(MIRROR_DONE, mirror_rebuild(KEY, ADDRESS, MIRROR_LOCAL, LOCAL, TAG, OUT));
+    DUE(out, STORED_REMOTE, SIZE);
+    NO_MORE("mirror_rebuild");
+    GIVES(MIRROR_DONE, mirror_rebuild(KEY, ADDRESS, MIRROR_REMOTE, REMOTE, TAG, OUT));
+    DUE(out, STORED_LOCAL, SIZE);
+    NO_MORE("mirror_rebuild");
+    REFUSES(MIRROR_NONE_FITS, mirror_rebuild(KEY, ADDRESS, MIRROR_LOCAL, REMOTE, TAG, OUT));
+    REFUSES(MIRROR_UNKNOWN_SIDE, mirror_rebuild(KEY, ADDRESS, 0xffffffff, LOCAL, TAG, OUT));
+    REFUSES(MIRROR_OTHER_LENGTH, mirror_rebuild(KEY, ADDRESS, 2, LOCAL, TAG, out, 16));
+    REFUSES(MIRROR_SECTOR_SIZE, mirror_rebuild(KEY, ADDRESS, 2, NOTHING, TAG, OUT));
+    REFUSES(MIRROR_KEY_LENGTH, mirror_rebuild(NOTHING, ADDRESS, 2, NOTHING, TAG, OUT));
+    puts("calls: mirror_rebuild");
+}
+
+static void combines(void)
+{
+    GIVES(MIRROR_DONE, mirror_combine(LOCAL, REMOTE, OUT));
+    DUE(out, plain, SIZE);
+    NO_MORE("mirror_combine");
+    REFUSES(MIRROR_SECTOR_SIZE, mirror_combine(NOTHING, NOTHING, NOTHING));
+    REFUSES(MIRROR_OTHER_LENGTH, mirror_combine(LOCAL, NOTHING, OUT));
+    REFUSES(MIRROR_OTHER_LENGTH, mirror_combine(LOCAL, REMOTE, NOTHING));
+    puts("calls: mirror_combine");
+}
+
+static void clashes(void)
+{
+    clash(ADDRESS);
+    REFUSES(MIRROR_CLASHING, mirror_judge(KEY, ADDRESS, LOCAL, TAG, REMOTE, OUT));
+    GIVES(MIRROR_DONE, mirror_open(KEY, ADDRESS, MIRROR_LOCAL, LOCAL, TAG, OUT));
+    DUE(out, plain, SIZE);
+    NO_MORE("mirror_open of a clashing sector");
+    plain[SIZE - 1] = 0;
+    GIVES(MIRROR_DONE, mirror_open(KEY, ADDRESS, MIRROR_REMOTE, REMOTE, TAG, OUT));
+    DUE(out, plain, SIZE);
+    NO_MORE("mirror_open of a clashing sector");
+}
+
+/* Seal, judge and combine at another size, with buffers of that length. */
+static void at_size(size_t size)
+{
+    uint8_t *p = heap(size), *l = heap(size), *r = heap(size), *o = heap(size);
+    fill(p, size, 9);
+    answers(MIRROR_DONE, mirror_seal(KEY, 0, p, size, l, size, r, size, TAG), __LINE__, "sealing another size");
+    answers(MIRROR_WHOLE, mirror_judge(KEY, 0, l, size, TAG, r, size, o, size), __LINE__, "judging another size");
+    check(memcmp(o, p, size) == 0, __LINE__, "judging another size", "gives another plaintext");
+    memset(o, 0, size);
+    answers(MIRROR_DONE, mirror_combine(l, size, r, size, o, size), __LINE__, "combining another size");
+    check(memcmp(o, p, size) == 0, __LINE__, "combining another size", "gives another plaintext");
+    r[size - 1] ^= 1;
+    answers(MIRROR_DOUBTFUL_REMOTE, mirror_judge(KEY, 0, l, size, TAG, r, size, o, size), __LINE__, "judging another size");
+    free(p);
+    free(l);
+    free(r);
+    free(o);
+}
+
+/* ---- a volume */
+
+#define VOLUME KEY, SIZE, COUNT
+#define IMAGES LOCALS, TAGS, REMOTES
+
+/* The parts of a sector are due as local, tag and remote are. */
+static void due_part(size_t number)
+{
+    DUE(locals + number * SIZE, local, SIZE);
+    DUE(tags + number * MIRROR_TAG_BYTES, tag, MIRROR_TAG_BYTES);
+    DUE(remotes + number * SIZE, remote, SIZE);
+}
+
+static void blanks(void)
+{
+    size_t number;
+    memset(plain, 0, SIZE);
+    for (number = 0; number < COUNT; number++) {
+        sealed(number);
+        GIVES(MIRROR_DONE, mirror_blank(VOLUME, number, IMAGES));
+        due_part(number);
+        NO_MORE("mirror_blank");
+    }
+    REFUSES(MIRROR_SECTOR_NUMBER, mirror_blank(VOLUME, COUNT, IMAGES));
+    REFUSES(MIRROR_VOLUME_SHAPE, mirror_blank(KEY, SIZE, 0, COUNT, NOTHING, NOTHING, NOTHING));
+    REFUSES(MIRROR_VOLUME_SHAPE, mirror_blank(KEY, SIZE, MIRROR_MOST_SECTORS + 1, 0, IMAGES));
+    REFUSES(MIRROR_VOLUME_SHAPE, mirror_blank(VOLUME, COUNT, NOTHING, TAGS, REMOTES));
+    REFUSES(MIRROR_VOLUME_SHAPE, mirror_blank(VOLUME, COUNT, LOCALS, NOTHING, REMOTES));
+    REFUSES(MIRROR_VOLUME_SHAPE, mirror_blank(VOLUME, COUNT, LOCALS, TAGS, remotes, SIZE));
+    REFUSES(MIRROR_SECTOR_SIZE, mirror_blank(KEY, 15, 0, COUNT, IMAGES));
+    REFUSES(MIRROR_SECTOR_SIZE, mirror_blank(KEY, 4112, 0, COUNT, IMAGES));
+    REFUSES(MIRROR_KEY_LENGTH, mirror_blank(NOTHING, 15, 0, COUNT, NOTHING, NOTHING, NOTHING));
+    puts("calls: mirror_blank");
+}
+
+/* A write to sector 1, with the reads between. */
+static void stages(void)
+{
+    uint8_t zeros[SIZE];
+    memset(zeros, 0, SIZE);
+    fill(plain, SIZE, 0x40);
+    sealed(1);
+    REFUSES(MIRROR_STAGE_ORDER, mirror_second_stage(VOLUME, 1, PLAIN, IMAGES));
+    REFUSES(MIRROR_STAGE_ORDER, mirror_third_stage(VOLUME, 1, PLAIN, IMAGES));
+    GIVES(MIRROR_DONE, mirror_first_stage(VOLUME, 1, PLAIN, IMAGES));
+    DUE(locals + SIZE, local, SIZE);
+    NO_MORE("mirror_first_stage");
+    REFUSES(MIRROR_STAGE_ORDER, mirror_first_stage(VOLUME, 1, PLAIN, IMAGES));
+    REFUSES(MIRROR_STAGE_ORDER, mirror_third_stage(VOLUME, 1, PLAIN, IMAGES));
+    GIVES(MIRROR_DOUBTFUL_LOCAL, mirror_read(VOLUME, 1, IMAGES, OUT));
+    DUE(out, zeros, SIZE);
+    NO_MORE("mirror_read after the first stage");
+    GIVES(MIRROR_DONE, mirror_second_stage(VOLUME, 1, PLAIN, IMAGES));
+    DUE(tags + MIRROR_TAG_BYTES, tag, MIRROR_TAG_BYTES);
+    NO_MORE("mirror_second_stage");
+    GIVES(MIRROR_DOUBTFUL_REMOTE, mirror_read(VOLUME, 1, IMAGES, OUT));
+    DUE(out, plain, SIZE);
+    NO_MORE("mirror_read after the second stage");
+    GIVES(MIRROR_DONE, mirror_third_stage(VOLUME, 1, PLAIN, IMAGES));
+    DUE(remotes + SIZE, remote, SIZE);
+    NO_MORE("mirror_third_stage");
+}
+
+typedef uint32_t (*Stage)(size_t, size_t, size_t, size_t, const uint8_t *, size_t);
+
+static uint32_t first(size_t key_len, size_t s, size_t n, size_t number, const uint8_t *p, size_t length)
+{
+    return mirror_first_stage(key, key_len, s, n, number, p, length, IMAGES);
+}
+
+static uint32_t second(size_t key_len, size_t s, size_t n, size_t number, const uint8_t *p, size_t length)
+{
+    return mirror_second_stage(key, key_len, s, n, number, p, length, IMAGES);
+}
+
+static uint32_t third(size_t key_len, size_t s, size_t n, size_t number, const uint8_t *p, size_t length)
+{
+    return mirror_third_stage(key, key_len, s, n, number, p, length, IMAGES);
+}
+
+static void stage_refuses(Stage stage, const char *name)
+{
+    REFUSES(MIRROR_OTHER_LENGTH, stage(MIRROR_KEY_BYTES, SIZE, COUNT, 1, NOTHING));
+    REFUSES(MIRROR_OTHER_LENGTH, stage(MIRROR_KEY_BYTES, SIZE, COUNT, 1, plain, 16));
+    REFUSES(MIRROR_SECTOR_NUMBER, stage(MIRROR_KEY_BYTES, SIZE, COUNT, COUNT, NOTHING));
+    REFUSES(MIRROR_VOLUME_SHAPE, stage(MIRROR_KEY_BYTES, SIZE, COUNT + 1, COUNT + 1, NOTHING));
+    REFUSES(MIRROR_SECTOR_SIZE, stage(MIRROR_KEY_BYTES, 0, COUNT + 1, COUNT + 1, NOTHING));
+    REFUSES(MIRROR_KEY_LENGTH, stage(0, 0, COUNT + 1, COUNT + 1, NOTHING));
+    printf("calls: %s\n", name);
+}
+
+static void reads(void)
+{
+    GIVES(MIRROR_WHOLE, mirror_read(VOLUME, 1, IMAGES, OUT));
+    DUE(out, plain, SIZE);
+    NO_MORE("mirror_read");
+    REFUSES(MIRROR_OTHER_LENGTH, mirror_read(VOLUME, 1, IMAGES, NOTHING));
+    REFUSES(MIRROR_SECTOR_NUMBER, mirror_read(VOLUME, COUNT, IMAGES, NOTHING));
+    REFUSES(MIRROR_VOLUME_SHAPE, mirror_read(VOLUME, COUNT, NOTHING, NOTHING, NOTHING, NOTHING));
+    REFUSES(MIRROR_SECTOR_SIZE, mirror_read(KEY, 24, COUNT, COUNT, IMAGES, NOTHING));
+    REFUSES(MIRROR_KEY_LENGTH, mirror_read(NOTHING, 24, COUNT, COUNT, IMAGES, NOTHING));
+    puts("calls: mirror_read");
+}
+
+/* Damages one place of sector 1, whose parts local, tag and remote have, and mends it. */
+static void mends_damaged(uint8_t *place, uint32_t doubtful)
+{
+    place[5] ^= 0x80;
+    GIVES(doubtful, mirror_mend(VOLUME, 1, IMAGES));
+    due_part(1);
+    NO_MORE("mirror_mend");
+    GIVES(MIRROR_WHOLE, mirror_mend(VOLUME, 1, IMAGES));
+    NO_MORE("mirror_mend of a whole sector");
+}
+
+static void mends(void)
+{
+    mends_damaged(locals + SIZE, MIRROR_DOUBTFUL_LOCAL);
+    mends_damaged(tags + MIRROR_TAG_BYTES, MIRROR_DOUBTFUL_TAG);
+    mends_damaged(remotes + SIZE, MIRROR_DOUBTFUL_REMOTE);
+    REFUSES(MIRROR_SECTOR_NUMBER, mirror_mend(VOLUME, COUNT, IMAGES));
+    REFUSES(MIRROR_VOLUME_SHAPE, mirror_mend(VOLUME, COUNT, NOTHING, NOTHING, NOTHING));
+    REFUSES(MIRROR_SECTOR_SIZE, mirror_mend(KEY, 8, COUNT, COUNT, IMAGES));
+    REFUSES(MIRROR_KEY_LENGTH, mirror_mend(key, 16, 8, COUNT, COUNT, IMAGES));
+    puts("calls: mirror_mend");
+}
+
+/* Sector 0 clashing, 1 doubtful, 2 lost. */
+static void damage_all(void)
+{
+    clash(0);
+    memcpy(locals, local, SIZE);
+    memcpy(tags, tag, MIRROR_TAG_BYTES);
+    memcpy(remotes, remote, SIZE);
+    tags[MIRROR_TAG_BYTES] ^= 1;
+    locals[2 * SIZE] ^= 1;
+    remotes[3 * SIZE - 1] ^= 1;
+    REFUSES(MIRROR_CLASHING, mirror_read(VOLUME, 0, IMAGES, OUT));
+    REFUSES(MIRROR_CLASHING, mirror_mend(VOLUME, 0, IMAGES));
+    REFUSES(MIRROR_LOST, mirror_read(VOLUME, 2, IMAGES, OUT));
+    REFUSES(MIRROR_LOST, mirror_mend(VOLUME, 2, IMAGES));
+}
+
+static void surveys(void)
+{
+    const uint64_t all_whole[MIRROR_COUNTS] = {3, 0, 0, 0, 1000}, one_whole[MIRROR_COUNTS] = {1, 0, 1, 1, 333};
+    const uint64_t none_whole[MIRROR_COUNTS] = {0, 1, 1, 1, 0};
+    const uint32_t all_three[COUNT] = {0, 1, 2}, two[2] = {0, 2};
+    GIVES(MIRROR_DONE, mirror_survey(VOLUME, IMAGES, LIST, counts));
+    DUE(count_bytes, all_whole, sizeof all_whole);
+    NO_MORE("mirror_survey of whole sectors");
+    damage_all();
+    GIVES(MIRROR_DONE, mirror_survey(VOLUME, IMAGES, list, ENTRIES, counts));
+    DUE(count_bytes, none_whole, sizeof none_whole);
+    DUE(list_bytes, all_three, sizeof all_three);
+    NO_MORE("mirror_survey of damaged sectors");
+    answers(MIRROR_DOUBTFUL_TAG, mirror_mend(VOLUME, 1, IMAGES), __LINE__, "mending sector 1");
+    memset(list, 0x5a, ENTRIES * sizeof(uint32_t));
+    GIVES(MIRROR_DONE, mirror_survey(VOLUME, IMAGES, LIST, counts));
+    DUE(count_bytes, one_whole, sizeof one_whole);
+    DUE(list_bytes, two, sizeof two);
+    NO_MORE("mirror_survey after a mend");
+    check(counts[MIRROR_COUNT_WHOLE] == 1 && counts[MIRROR_COUNT_DOUBTFUL] == 0 && counts[MIRROR_COUNT_CLASHING] == 1 &&
+              counts[MIRROR_COUNT_LOST] == 1 && counts[MIRROR_COUNT_HEALTH] == 333,
+          __LINE__, "mirror_survey", "the counts stand at other places");
+    REFUSES(MIRROR_LIST_LENGTH, mirror_survey(VOLUME, IMAGES, NOTHING, counts));
+    REFUSES(MIRROR_LIST_LENGTH, mirror_survey(VOLUME, IMAGES, list, COUNT - 1, counts));
+    REFUSES(MIRROR_VOLUME_SHAPE, mirror_survey(VOLUME, NOTHING, NOTHING, NOTHING, NOTHING, counts));
+    REFUSES(MIRROR_SECTOR_SIZE, mirror_survey(KEY, 33, COUNT, IMAGES, NOTHING, counts));
+    REFUSES(MIRROR_KEY_LENGTH, mirror_survey(NOTHING, 33, COUNT, IMAGES, NOTHING, counts));
+    puts("calls: mirror_survey");
+}
+
+/* ---- all of it */
+
+static void every_answer(void)
+{
+    static const uint8_t ANSWERS[] = {0, 1, 2, 3, 4, 5, 6, 7, 8, 9, 10, 11, 0x81, 0x82, 0x83};
+    size_t i;
+    for (i = 0; i < sizeof ANSWERS; i++) {
+        char what[32];
+        sprintf(what, "never came: %x", ANSWERS[i]);
+        check(met[ANSWERS[i]], __LINE__, "an answer", what);
+    }
+}
+
+static void free_all(void)
+{
+    while (lents > 0) {
+        lents--;
+        free(lent[lents].at);
+        free(lent[lents].due);
+    }
+}
+
+int main(void)
+{
+    lend_all();
+    fill(key, MIRROR_KEY_BYTES, 0);
+    fill(plain, SIZE, 0x80);
+    seals();
+    judges();
+    opens();
+    rebuilds();
+    combines();
+    clashes();
+    at_size(MIRROR_LEAST_SECTOR);
+    at_size(496);
+    at_size(MIRROR_MOST_SECTOR);
+    blanks();
+    stages();
+    stage_refuses(first, "mirror_first_stage");
+    stage_refuses(second, "mirror_second_stage");
+    stage_refuses(third, "mirror_third_stage");
+    reads();
+    mends();
+    surveys();
+    every_answer();
+    free_all();
+    printf("calls: %u checks hold, and each of the 15 answers came\n", checks);
+    return 0;
+}

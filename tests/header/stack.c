@@ -1,0 +1,149 @@
+/*
+ * How much stack a call uses. Each call runs on a painted stack of its own, at every sector size and verdict; what it has painted over is
+ * what it used. Linked with `-z now`, so that no symbol is resolved on that stack.
+ */
+#define _XOPEN_SOURCE 700
+#include "mirror.h"
+
+#include <stdio.h>
+#include <stdlib.h>
+#include <string.h>
+#include <ucontext.h>
+
+enum { ROOM = 65536, PAINT = 0xa5, TAG = MIRROR_TAG_BYTES };
+
+static uint8_t key[MIRROR_KEY_BYTES];
+static uint8_t plain[MIRROR_MOST_SECTOR], local[MIRROR_MOST_SECTOR], remote[MIRROR_MOST_SECTOR], tag[TAG], out[MIRROR_MOST_SECTOR];
+static size_t size;
+static uint32_t list[1], side, answer;
+static uint64_t counts[MIRROR_COUNTS];
+
+static void seal(void) { answer = mirror_seal(key, sizeof key, 0, plain, size, local, size, remote, size, tag, TAG); }
+static void judge(void) { answer = mirror_judge(key, sizeof key, 0, local, size, tag, TAG, remote, size, out, size); }
+static void open(void) { answer = mirror_open(key, sizeof key, 0, side, side ? remote : local, size, tag, TAG, out, size); }
+static void rebuild(void) { answer = mirror_rebuild(key, sizeof key, 0, side, side ? remote : local, size, tag, TAG, out, size); }
+static void combine(void) { answer = mirror_combine(local, size, remote, size, out, size); }
+static void blank(void) { answer = mirror_blank(key, sizeof key, size, 1, 0, local, size, tag, TAG, remote, size); }
+static void first(void) { answer = mirror_first_stage(key, sizeof key, size, 1, 0, plain, size, local, size, tag, TAG, remote, size); }
+static void second(void) { answer = mirror_second_stage(key, sizeof key, size, 1, 0, plain, size, local, size, tag, TAG, remote, size); }
+static void third(void) { answer = mirror_third_stage(key, sizeof key, size, 1, 0, plain, size, local, size, tag, TAG, remote, size); }
+static void read(void) { answer = mirror_read(key, sizeof key, size, 1, 0, local, size, tag, TAG, remote, size, out, size); }
+static void mend(void) { answer = mirror_mend(key, sizeof key, size, 1, 0, local, size, tag, TAG, remote, size); }
+static void survey(void) { answer = mirror_survey(key, sizeof key, size, 1, local, size, tag, TAG, remote, size, list, 1, counts); }
+
+typedef struct {
+    const char *name;
+    void (*run)(void);
+    size_t most;
+} Call;
+
+static Call calls[] = {{"seal", seal, 0},         {"judge", judge, 0},         {"open", open, 0},         {"rebuild", rebuild, 0},
+                       {"combine", combine, 0},   {"blank", blank, 0},         {"first_stage", first, 0}, {"second_stage", second, 0},
+                       {"third_stage", third, 0}, {"read", read, 0},           {"mend", mend, 0},         {"survey", survey, 0}};
+enum { CALLS = sizeof calls / sizeof calls[0] };
+
+static uint8_t *stack;
+
+/* Runs a call on the painted stack and notes how far down it wrote. */
+static void measure(Call *call)
+{
+    ucontext_t here, there;
+    size_t clean = 0;
+    memset(stack, PAINT, ROOM);
+    if (getcontext(&there) != 0) {
+        exit(1);
+    }
+    there.uc_stack.ss_sp = stack;
+    there.uc_stack.ss_size = ROOM;
+    there.uc_link = &here;
+    makecontext(&there, call->run, 0);
+    if (swapcontext(&here, &there) != 0) {
+        exit(1);
+    }
+    while (clean < ROOM && stack[clean] == PAINT) {
+        clean++;
+    }
+    if (ROOM - clean > call->most) {
+        call->most = ROOM - clean;
+    }
+}
+
+/* Two plaintexts that begin with h and differ in block 2 only have one tag. */
+static void clash(void)
+{
+    static uint8_t other[MIRROR_MOST_SECTOR];
+    memcpy(plain, key, TAG);
+    seal();
+    memcpy(other, remote, size);
+    plain[TAG] ^= 1;
+    seal();
+    memcpy(remote, other, size);
+}
+
+/* Seals a sector and damages it so that judging gives this answer. */
+static void prepare(uint32_t verdict)
+{
+    memset(plain, 7, size);
+    seal();
+    if (verdict == MIRROR_DOUBTFUL_LOCAL || verdict == MIRROR_LOST) {
+        local[0] ^= 1;
+    }
+    if (verdict == MIRROR_DOUBTFUL_TAG) {
+        tag[0] ^= 1;
+    }
+    if (verdict == MIRROR_DOUBTFUL_REMOTE || verdict == MIRROR_LOST) {
+        remote[size - 1] ^= 2;
+    }
+    if (verdict == MIRROR_CLASHING) {
+        clash();
+    }
+    judge();
+    if (answer != verdict) {
+        fprintf(stderr, "stack: judging answers %x and not %x (hexadecimal)\n", (unsigned)answer, (unsigned)verdict);
+        exit(1);
+    }
+}
+
+/* Every call on a sector of this size for which judging gives this answer. */
+static void measure_all(uint32_t verdict)
+{
+    size_t i;
+    for (i = 0; i < CALLS; i++) {
+        prepare(verdict);
+        measure(&calls[i]);
+    }
+}
+
+static void measure_sizes(uint32_t verdict, size_t least)
+{
+    for (size = least; size <= MIRROR_MOST_SECTOR; size += 16) {
+        side = (uint32_t)(size / 16 % 2);
+        measure_all(verdict);
+    }
+}
+
+int main(void)
+{
+    size_t i, most = 0;
+    stack = (uint8_t *)malloc(ROOM);
+    if (stack == NULL) {
+        return 1;
+    }
+    memset(key, 0x31, sizeof key);
+    measure_sizes(MIRROR_WHOLE, 16);
+    measure_sizes(MIRROR_DOUBTFUL_LOCAL, 16);
+    measure_sizes(MIRROR_DOUBTFUL_TAG, 16);
+    measure_sizes(MIRROR_DOUBTFUL_REMOTE, 16);
+    measure_sizes(MIRROR_LOST, 16);
+    measure_sizes(MIRROR_CLASHING, 32);
+    for (i = 0; i < CALLS; i++) {
+        printf("stack: mirror_%s uses at most %lu bytes\n", calls[i].name, (unsigned long)calls[i].most);
+        most = calls[i].most > most ? calls[i].most : most;
+    }
+    free(stack);
+    if (most < 2 * MIRROR_MOST_SECTOR || most >= MIRROR_STACK_BYTES) {
+        fprintf(stderr, "stack: measured %lu bytes, and the header says less than %d\n", (unsigned long)most, MIRROR_STACK_BYTES);
+        return 1;
+    }
+    return 0;
+}
