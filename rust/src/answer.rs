@@ -1,0 +1,208 @@
+//! What a call can answer, and the library's number for it.
+
+use std::error::Error;
+use std::fmt;
+
+/// One of the three places of a sector.
+#[derive(Clone, Copy, Debug, PartialEq, Eq, Hash)]
+pub enum Place {
+    /// The local sector.
+    Local,
+    /// The tag.
+    Tag,
+    /// The remote sector.
+    Remote,
+}
+
+impl fmt::Display for Place {
+    fn fmt(&self, f: &mut fmt::Formatter<'_>) -> fmt::Result {
+        f.write_str(match self {
+            Place::Local => "the local sector",
+            Place::Tag => "the tag",
+            Place::Remote => "the remote sector",
+        })
+    }
+}
+
+/// One of the two sides, local and remote.
+#[derive(Clone, Copy, Debug, PartialEq, Eq, Hash)]
+pub enum Side {
+    /// The local sector.
+    Local = 0,
+    /// The remote sector.
+    Remote = 1,
+}
+
+impl Side {
+    /// The library's number: 0 or 1.
+    pub fn number(self) -> u32 {
+        self as u32
+    }
+}
+
+/// What judging finds where it gives a plaintext.
+#[derive(Clone, Copy, Debug, PartialEq, Eq, Hash)]
+pub enum Verdict {
+    /// One plaintext fits all three places.
+    Whole,
+    /// Exactly one plaintext fits two places, and this place does not fit it.
+    Doubtful(Place),
+}
+
+impl Verdict {
+    /// The library's number: 0, or hexadecimal 81, 82 or 83.
+    pub fn number(self) -> u32 {
+        match self {
+            Verdict::Whole => 0,
+            Verdict::Doubtful(Place::Local) => 0x81,
+            Verdict::Doubtful(Place::Tag) => 0x82,
+            Verdict::Doubtful(Place::Remote) => 0x83,
+        }
+    }
+}
+
+impl fmt::Display for Verdict {
+    fn fmt(&self, f: &mut fmt::Formatter<'_>) -> fmt::Result {
+        match self {
+            Verdict::Whole => f.write_str("whole"),
+            Verdict::Doubtful(place) => write!(f, "doubtful at {place}"),
+        }
+    }
+}
+
+/// Why a call was turned away. It has changed nothing that it was lent.
+///
+/// The text ([`Display`](fmt::Display)) says what is wrong and what to do.
+///
+/// ```
+/// let refused = mirror::combine(&[0; 15], &[0; 15], &mut [0; 15]);
+/// assert_eq!(refused, Err(mirror::Refusal::SectorSize));
+/// assert!(refused.unwrap_err().to_string().starts_with("the size is not a multiple of 16"));
+/// ```
+#[derive(Clone, Copy, Debug, PartialEq, Eq, Hash)]
+#[non_exhaustive]
+pub enum Refusal {
+    /// 1: the key does not have 32 bytes.
+    KeyLength = 1,
+    /// 2: the size is not a multiple of 16 from 16 to 4,096.
+    SectorSize = 2,
+    /// 3: a plaintext, a sector, a tag or an output has another length than it
+    /// must have.
+    OtherLength = 3,
+    /// 4: the side is neither local nor remote. [`Side`] rules this out.
+    UnknownSide = 4,
+    /// 5: no plaintext fits this side and this tag.
+    NoneFits = 5,
+    /// 6: no plaintext fits two places.
+    Lost = 6,
+    /// 7: more than one plaintext fits two places.
+    Clashing = 7,
+    /// 8: the count is not 1 to 65,536, or an image has another length than
+    /// size and count ask for.
+    VolumeShape = 8,
+    /// 9: the sector's number is not below the count.
+    SectorNumber = 9,
+    /// 10: this stage is not due.
+    StageOrder = 10,
+    /// 11: the list is shorter than the count.
+    ListLength = 11,
+}
+
+impl Refusal {
+    /// All refusals, by their numbers.
+    pub const ALL: [Refusal; 11] = [
+        Refusal::KeyLength,
+        Refusal::SectorSize,
+        Refusal::OtherLength,
+        Refusal::UnknownSide,
+        Refusal::NoneFits,
+        Refusal::Lost,
+        Refusal::Clashing,
+        Refusal::VolumeShape,
+        Refusal::SectorNumber,
+        Refusal::StageOrder,
+        Refusal::ListLength,
+    ];
+
+    /// The library's number: 1 to 11.
+    pub fn number(self) -> u32 {
+        self as u32
+    }
+
+    /// The refusal that has this number.
+    pub fn from_number(number: u32) -> Option<Refusal> {
+        Self::ALL.into_iter().find(|r| r.number() == number)
+    }
+}
+
+impl fmt::Display for Refusal {
+    fn fmt(&self, f: &mut fmt::Formatter<'_>) -> fmt::Result {
+        f.write_str(match self {
+            Refusal::KeyLength => {
+                "the key does not have 32 bytes: give the hash key and then the AES key, 16 bytes each"
+            }
+            Refusal::SectorSize => {
+                "the size is not a multiple of 16 from 16 to 4,096: \
+                 give the size that the sector or the volume was made with"
+            }
+            Refusal::OtherLength => {
+                "a plaintext, a sector, a tag or an output has another length than it must have: \
+                 give as many bytes as the sector's size, and 16 for a tag"
+            }
+            Refusal::UnknownSide => "the side is neither 0 (local) nor 1 (remote): name one of the two",
+            Refusal::NoneFits => {
+                "no plaintext fits this side and this tag: try the other side, \
+                 or judge the sector if both sides are there"
+            }
+            Refusal::Lost => {
+                "lost, no plaintext fits two places: see by other sectors whether the key is right; \
+                 if it is, blank the sector and write it from a backup"
+            }
+            Refusal::Clashing => {
+                "clashing, more than one plaintext fits two places: repeat the third stage if a write \
+                 was under way; otherwise open both sides, choose, blank the sector and write the choice"
+            }
+            Refusal::VolumeShape => {
+                "the count is not 1 to 65,536, or an image has another length than size and count ask for: \
+                 check the size, the count and the three images"
+            }
+            Refusal::SectorNumber => {
+                "the sector's number is not below the count: sectors count from 0"
+            }
+            Refusal::StageOrder => {
+                "this stage is not due: read the sector, mend it if it is doubtful, \
+                 and begin the write again with the first stage"
+            }
+            Refusal::ListLength => {
+                "the list is shorter than the count: lend one entry for each sector"
+            }
+        })
+    }
+}
+
+impl Error for Refusal {}
+
+/// The answer of a call that only writes.
+pub(crate) fn done(answer: u32) -> Result<(), Refusal> {
+    match answer {
+        0 => Ok(()),
+        _ => Err(refusal(answer)),
+    }
+}
+
+/// The answer of a call that judges.
+pub(crate) fn judged(answer: u32) -> Result<Verdict, Refusal> {
+    match answer {
+        0 => Ok(Verdict::Whole),
+        0x81 => Ok(Verdict::Doubtful(Place::Local)),
+        0x82 => Ok(Verdict::Doubtful(Place::Tag)),
+        0x83 => Ok(Verdict::Doubtful(Place::Remote)),
+        _ => Err(refusal(answer)),
+    }
+}
+
+fn refusal(answer: u32) -> Refusal {
+    Refusal::from_number(answer).unwrap_or_else(|| {
+        panic!("libmirror.a answers {answer}, which is unknown here: link the release that this crate is of")
+    })
+}

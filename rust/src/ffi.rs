@@ -1,0 +1,204 @@
+//! The library's functions as `include/mirror.h` declares them.
+//!
+//! Each is unsafe, and gives the number of its answer: 0, hexadecimal 81, 82 or
+//! 83, or a refusal from 1 to 11. The functions at the root of this crate are
+//! the same calls on slices, and safe.
+//!
+//! # Safety
+//!
+//! A caller of any of these sees to it that
+//!
+//! - each pointer is valid for the length that follows it, in elements, and the
+//!   length in bytes is at most `isize::MAX`; `counts` is valid for five numbers;
+//! - a pointer is null only if its length is 0, and `counts` never is;
+//! - `list` and `counts` are aligned for their types;
+//! - a buffer that comes as `*mut` overlaps no other buffer of the call.
+//!
+//! Nothing else is asked: any lengths, numbers and bytes are safe.
+
+extern "C" {
+    /// Seals a plaintext. Mind the order: local, remote, tag.
+    pub fn mirror_seal(
+        key: *const u8,
+        key_len: usize,
+        address: u64,
+        plain: *const u8,
+        plain_len: usize,
+        local: *mut u8,
+        local_len: usize,
+        remote: *mut u8,
+        remote_len: usize,
+        tag: *mut u8,
+        tag_len: usize,
+    ) -> u32;
+
+    /// Judges a sector. Mind the order: local, tag, remote.
+    pub fn mirror_judge(
+        key: *const u8,
+        key_len: usize,
+        address: u64,
+        local: *const u8,
+        local_len: usize,
+        tag: *const u8,
+        tag_len: usize,
+        remote: *const u8,
+        remote_len: usize,
+        out: *mut u8,
+        out_len: usize,
+    ) -> u32;
+
+    /// Opens side 0 (local) or 1 (remote) with the tag.
+    pub fn mirror_open(
+        key: *const u8,
+        key_len: usize,
+        address: u64,
+        side: u32,
+        sector: *const u8,
+        sector_len: usize,
+        tag: *const u8,
+        tag_len: usize,
+        out: *mut u8,
+        out_len: usize,
+    ) -> u32;
+
+    /// Writes the other side than the one given, which is 0 (local) or 1
+    /// (remote).
+    pub fn mirror_rebuild(
+        key: *const u8,
+        key_len: usize,
+        address: u64,
+        side: u32,
+        sector: *const u8,
+        sector_len: usize,
+        tag: *const u8,
+        tag_len: usize,
+        out: *mut u8,
+        out_len: usize,
+    ) -> u32;
+
+    /// Writes the exclusive or of both sides, without a key.
+    pub fn mirror_combine(
+        local: *const u8,
+        local_len: usize,
+        remote: *const u8,
+        remote_len: usize,
+        out: *mut u8,
+        out_len: usize,
+    ) -> u32;
+
+    /// Seals zeros into one sector of a volume.
+    pub fn mirror_blank(
+        key: *const u8,
+        key_len: usize,
+        s: usize,
+        n: usize,
+        number: usize,
+        local: *mut u8,
+        local_len: usize,
+        tags: *mut u8,
+        tags_len: usize,
+        remote: *mut u8,
+        remote_len: usize,
+    ) -> u32;
+
+    /// Writes the local sector of a plaintext.
+    pub fn mirror_first_stage(
+        key: *const u8,
+        key_len: usize,
+        s: usize,
+        n: usize,
+        number: usize,
+        plain: *const u8,
+        plain_len: usize,
+        local: *mut u8,
+        local_len: usize,
+        tags: *const u8,
+        tags_len: usize,
+        remote: *const u8,
+        remote_len: usize,
+    ) -> u32;
+
+    /// Writes the tag of a plaintext.
+    pub fn mirror_second_stage(
+        key: *const u8,
+        key_len: usize,
+        s: usize,
+        n: usize,
+        number: usize,
+        plain: *const u8,
+        plain_len: usize,
+        local: *const u8,
+        local_len: usize,
+        tags: *mut u8,
+        tags_len: usize,
+        remote: *const u8,
+        remote_len: usize,
+    ) -> u32;
+
+    /// Writes the remote sector of a plaintext.
+    pub fn mirror_third_stage(
+        key: *const u8,
+        key_len: usize,
+        s: usize,
+        n: usize,
+        number: usize,
+        plain: *const u8,
+        plain_len: usize,
+        local: *const u8,
+        local_len: usize,
+        tags: *const u8,
+        tags_len: usize,
+        remote: *mut u8,
+        remote_len: usize,
+    ) -> u32;
+
+    /// Judges one sector of a volume.
+    pub fn mirror_read(
+        key: *const u8,
+        key_len: usize,
+        s: usize,
+        n: usize,
+        number: usize,
+        local: *const u8,
+        local_len: usize,
+        tags: *const u8,
+        tags_len: usize,
+        remote: *const u8,
+        remote_len: usize,
+        out: *mut u8,
+        out_len: usize,
+    ) -> u32;
+
+    /// Writes the doubtful place of one sector anew.
+    pub fn mirror_mend(
+        key: *const u8,
+        key_len: usize,
+        s: usize,
+        n: usize,
+        number: usize,
+        local: *mut u8,
+        local_len: usize,
+        tags: *mut u8,
+        tags_len: usize,
+        remote: *mut u8,
+        remote_len: usize,
+    ) -> u32;
+
+    /// Judges every sector. `counts` is given whole, doubtful, clashing, lost
+    /// and the health.
+    pub fn mirror_survey(
+        key: *const u8,
+        key_len: usize,
+        s: usize,
+        n: usize,
+        local: *const u8,
+        local_len: usize,
+        tags: *const u8,
+        tags_len: usize,
+        remote: *const u8,
+        remote_len: usize,
+        list: *mut u32,
+        list_len: usize,
+        counts: *mut [u64; 5],
+    ) -> u32;
+}

@@ -1,0 +1,132 @@
+//! The double ciphertext mirror: safe calls of a verified library.
+//!
+//! A **sector** is kept in three places: a local sector, a tag and a remote
+//! sector. Sealing makes all three from a plaintext, under a key and an address.
+//! Any two of them give the plaintext back, so damage to one place is found and
+//! can be mended. A **volume** is a number of sectors in three images; sector
+//! `i`, from 0, has address `i`.
+//!
+//! | what | how many bytes |
+//! |---|---|
+//! | key | 32: the hash key h, then the AES-128 key |
+//! | plaintext, local sector, remote sector | the size, a multiple of 16 from 16 to 4,096 |
+//! | tag | 16 |
+//! | images of a volume of n sectors, n from 1 to 65,536 | local and remote n times the size, tags n times 16 |
+//!
+//! Lengths and numbers are not asked of the caller: every value is safe, and a
+//! wrong one is refused. Each call lists its refusals in the order in which it
+//! checks them. **A refused call has changed no byte that it was lent.** What
+//! the calls answer is proved of the library (`libmirror.a`, for x86-64 Linux);
+//! this crate only hands slices over and names the answers, and is tested, not
+//! proved.
+//!
+//! # One sector
+//!
+//! ```
+//! use mirror::{judge, open, seal, Place, Refusal, Side, Verdict};
+//!
+//! let key = [7; mirror::KEY_BYTES];
+//! let (address, plaintext) = (5, [42; 512]);
+//! let (mut local, mut remote, mut tag) = ([0; 512], [0; 512], [0; 16]);
+//! seal(&key, address, &plaintext, &mut local, &mut remote, &mut tag)?;
+//!
+//! local[100] ^= 1;
+//! let mut output = [0; 512];
+//! let verdict = judge(&key, address, &local, &tag, &remote, &mut output)?;
+//! assert_eq!(verdict, Verdict::Doubtful(Place::Local));
+//! assert_eq!(output, plaintext);
+//!
+//! let opened = open(&key, address, Side::Local, &local, &tag, &mut output);
+//! assert_eq!(opened, Err(Refusal::NoneFits));
+//! # Ok::<(), Refusal>(())
+//! ```
+//!
+//! # A volume
+//!
+//! A write is three stages with one plaintext. [`Volume`] saves the repeated
+//! arguments; each method is also a function.
+//!
+//! ```
+//! use mirror::{Place, Refusal, Verdict, Volume};
+//!
+//! let (size, count) = (512, 4);
+//! let mut volume = Volume {
+//!     key: &[7; mirror::KEY_BYTES],
+//!     size,
+//!     count,
+//!     local: &mut vec![0; size * count],
+//!     tags: &mut vec![0; mirror::TAG_BYTES * count],
+//!     remote: &mut vec![0; size * count],
+//! };
+//! for number in 0..count {
+//!     volume.blank(number)?;
+//! }
+//!
+//! let plaintext = [42; 512];
+//! volume.first_stage(2, &plaintext)?;
+//! volume.second_stage(2, &plaintext)?;
+//! volume.third_stage(2, &plaintext)?;
+//!
+//! volume.remote[2 * size] ^= 1;
+//! assert_eq!(volume.mend(2)?, Verdict::Doubtful(Place::Remote));
+//!
+//! let mut output = [0; 512];
+//! assert_eq!(volume.read(2, &mut output)?, Verdict::Whole);
+//! assert_eq!(output, plaintext);
+//!
+//! let mut list = [0; 4];
+//! let (survey, not_whole) = volume.survey(&mut list)?;
+//! assert_eq!((survey.whole, survey.health), (4, 1000));
+//! assert!(not_whole.is_empty());
+//! # Ok::<(), Refusal>(())
+//! ```
+//!
+//! # Power cuts
+//!
+//! The calls work on images in memory. What is promised about power cuts holds
+//! if what a call wrote has reached the medium before the next call on that
+//! sector begins, and if a tag whose write was cut is the old or the new one,
+//! never a mixture. After a cut, read the sector and mend it if it is doubtful.
+//!
+//! # Secrets
+//!
+//! Local and remote sector together give the plaintext **without** the key
+//! ([`combine`]). One key, address and plaintext always give the same bytes. A
+//! call does not wipe what it leaves on the stack, and its time may depend on
+//! secret bytes. What an attacker can guess or forge is no claim of the library.
+//!
+//! # Memory and threads
+//!
+//! A call keeps no state, allocates nothing and uses less than 20 KiB of stack
+//! (measured, not proved). It may be made from any thread.
+
+#![deny(missing_docs)]
+#![deny(clippy::undocumented_unsafe_blocks)]
+// The calls take what the requirement names, one parameter for each.
+#![allow(clippy::too_many_arguments)]
+
+mod answer;
+pub mod ffi;
+mod sector;
+mod volume;
+
+pub use answer::{Place, Refusal, Side, Verdict};
+pub use sector::{combine, judge, open, rebuild, seal};
+pub use volume::{
+    blank, first_stage, mend, read, second_stage, survey, third_stage, Survey, Volume,
+};
+
+/// The bytes of a key.
+pub const KEY_BYTES: usize = 32;
+
+/// The bytes of a tag.
+pub const TAG_BYTES: usize = 16;
+
+/// The bytes of the smallest sector.
+pub const LEAST_SECTOR: usize = 16;
+
+/// The bytes of the largest sector.
+pub const MOST_SECTOR: usize = 4096;
+
+/// The sectors of the largest volume.
+pub const MOST_SECTORS: usize = 65_536;

@@ -1,0 +1,52 @@
+//! A sealed sector and a volume, on which tests make calls.
+
+use mirror::{seal, TAG_BYTES};
+
+/// The size of a test's sectors.
+pub const SIZE: usize = 48;
+
+/// How many sectors a test's volume has.
+pub const COUNT: usize = 3;
+
+/// A key whose bytes all differ.
+pub fn key() -> Vec<u8> {
+    (100..132).collect()
+}
+
+/// Bytes that differ for different `first`.
+pub fn bytes(first: u8) -> Vec<u8> {
+    (first..).take(SIZE).collect()
+}
+
+/// Local, tag and remote of one sector.
+#[derive(Clone, Debug, PartialEq)]
+pub struct Triple {
+    pub local: Vec<u8>,
+    pub tag: Vec<u8>,
+    pub remote: Vec<u8>,
+}
+
+/// The sealing of a plaintext under [`key`].
+pub fn sealed(address: u64, plaintext: &[u8]) -> Triple {
+    let mut triple = Triple {
+        local: vec![0; plaintext.len()],
+        tag: vec![0; TAG_BYTES],
+        remote: vec![0; plaintext.len()],
+    };
+    let Triple { local, tag, remote } = &mut triple;
+    seal(&key(), address, plaintext, local, remote, tag).expect("lengths are right");
+    triple
+}
+
+/// A clashing sector, and the plaintexts of its local and its remote sector:
+/// after a first block that equals h, the second block has no say in the tag.
+pub fn clashing(address: u64) -> (Triple, Vec<u8>, Vec<u8>) {
+    let mut one = bytes(0);
+    one[..16].copy_from_slice(&key()[..16]);
+    let mut other = one.clone();
+    other[31] ^= 1;
+    let (mut triple, of_other) = (sealed(address, &one), sealed(address, &other));
+    assert_eq!(triple.tag, of_other.tag);
+    triple.remote = of_other.remote;
+    (triple, one, other)
+}

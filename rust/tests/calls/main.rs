@@ -1,0 +1,6 @@
+//! Every call through this crate, and every answer.
+
+mod common;
+mod numbers;
+mod sector;
+mod volume;

@@ -1,0 +1,162 @@
+//! The calls on one sector: each answer as the wrapper names it.
+
+use crate::common::{bytes, clashing, key, sealed, Triple, SIZE};
+use mirror::{combine, judge, open, rebuild, seal};
+use mirror::{Place, Refusal, Side, Verdict};
+
+const ADDRESS: u64 = 0x0123_4567_89ab_cdef;
+
+fn judge_triple(triple: &Triple, address: u64) -> (Result<Verdict, Refusal>, Vec<u8>) {
+    let mut output = vec![0xee; triple.local.len()];
+    let Triple { local, tag, remote } = triple;
+    let verdict = judge(&key(), address, local, tag, remote, &mut output);
+    (verdict, output)
+}
+
+#[test]
+fn whole() {
+    let plaintext = bytes(1);
+    let triple = sealed(ADDRESS, &plaintext);
+    assert_eq!(
+        judge_triple(&triple, ADDRESS),
+        (Ok(Verdict::Whole), plaintext)
+    );
+}
+
+#[test]
+fn doubtful_at_each_place() {
+    let plaintext = bytes(2);
+    for place in [Place::Local, Place::Tag, Place::Remote] {
+        let mut triple = sealed(ADDRESS, &plaintext);
+        match place {
+            Place::Local => triple.local[20] ^= 1,
+            Place::Tag => triple.tag[15] ^= 1,
+            Place::Remote => triple.remote[47] ^= 1,
+        }
+        let due = (Ok(Verdict::Doubtful(place)), plaintext.clone());
+        assert_eq!(judge_triple(&triple, ADDRESS), due);
+    }
+}
+
+#[test]
+fn lost_and_clashing_leave_the_output() {
+    let unwritten = vec![0xee; SIZE];
+    let triple = sealed(ADDRESS, &bytes(3));
+    let due = (Err(Refusal::Lost), unwritten.clone());
+    assert_eq!(judge_triple(&triple, ADDRESS ^ 1), due);
+    let (triple, _, _) = clashing(ADDRESS);
+    let due = (Err(Refusal::Clashing), unwritten);
+    assert_eq!(judge_triple(&triple, ADDRESS), due);
+}
+
+#[test]
+fn each_side_of_a_clash_opens() {
+    let (triple, one, other) = clashing(ADDRESS);
+    let sides = [
+        (Side::Local, &triple.local, one),
+        (Side::Remote, &triple.remote, other),
+    ];
+    for (side, sector, plaintext) in sides {
+        let mut output = vec![0; SIZE];
+        let opened = open(&key(), ADDRESS, side, sector, &triple.tag, &mut output);
+        assert_eq!((opened, output), (Ok(()), plaintext));
+    }
+}
+
+#[test]
+fn rebuilds_each_side() {
+    let Triple { local, tag, remote } = sealed(ADDRESS, &bytes(4));
+    for (side, sector, missing) in [
+        (Side::Local, &local, &remote),
+        (Side::Remote, &remote, &local),
+    ] {
+        let mut output = vec![0; SIZE];
+        let rebuilt = rebuild(&key(), ADDRESS, side, sector, &tag, &mut output);
+        assert_eq!((rebuilt, &output), (Ok(()), missing));
+    }
+}
+
+#[test]
+fn combines() {
+    let Triple { local, remote, .. } = sealed(ADDRESS, &bytes(5));
+    let mut output = vec![0; SIZE];
+    assert_eq!(combine(&local, &remote, &mut output), Ok(()));
+    assert_eq!(output, bytes(5));
+    let wrong = combine(&local, &remote[1..], &mut output);
+    assert_eq!(wrong, Err(Refusal::OtherLength));
+    let wrong = combine(&local[1..], &remote, &mut output);
+    assert_eq!(wrong, Err(Refusal::SectorSize));
+    assert_eq!(output, bytes(5));
+}
+
+#[test]
+fn seal_and_judge_refuse_in_order() {
+    let plaintext = bytes(6);
+    let whole = sealed(ADDRESS, &plaintext);
+    for (key_length, size, tag_length, due) in [
+        (31, 40, 15, Refusal::KeyLength),
+        (32, 40, 15, Refusal::SectorSize),
+        (32, 48, 15, Refusal::OtherLength),
+    ] {
+        let mut triple = whole.clone();
+        let Triple { local, tag, remote } = &mut triple;
+        let key = &key()[..key_length];
+        let refused = seal(
+            key,
+            ADDRESS,
+            &plaintext[..size],
+            local,
+            remote,
+            &mut tag[..tag_length],
+        );
+        assert_eq!(refused, Err(due));
+        assert_eq!(triple, whole);
+
+        let Triple { local, tag, remote } = &whole;
+        let mut output = vec![0xee; SIZE];
+        let (local, tag) = (&local[..size], &tag[..tag_length]);
+        let refused = judge(key, ADDRESS, local, tag, remote, &mut output);
+        assert_eq!((refused, output), (Err(due), vec![0xee; SIZE]));
+    }
+}
+
+#[test]
+fn open_and_rebuild_refuse_in_order() {
+    let whole = sealed(ADDRESS, &bytes(7));
+    let (sector, tag) = (&whole.remote, &whole.tag);
+    for (key_length, size, tag_length, due) in [
+        (0, 0, 0, Refusal::KeyLength),
+        (32, 0, 0, Refusal::SectorSize),
+        (32, 48, 0, Refusal::OtherLength),
+        (32, 48, 16, Refusal::NoneFits),
+    ] {
+        for call in [open, rebuild] {
+            let (key, sector, tag) = (&key()[..key_length], &sector[..size], &tag[..tag_length]);
+            let mut output = vec![0xee; SIZE];
+            let refused = call(key, ADDRESS, Side::Local, sector, tag, &mut output);
+            assert_eq!((refused, output), (Err(due), vec![0xee; SIZE]));
+        }
+    }
+}
+
+#[test]
+fn sizes_at_the_bounds() {
+    for (size, accepted) in [
+        (0, false),
+        (mirror::LEAST_SECTOR - 1, false),
+        (mirror::LEAST_SECTOR, true),
+        (mirror::MOST_SECTOR, true),
+        (mirror::MOST_SECTOR + 16, false),
+    ] {
+        let (mut local, mut remote) = (vec![0; size], vec![0; size]);
+        let answer = seal(
+            &key(),
+            ADDRESS,
+            &vec![9; size],
+            &mut local,
+            &mut remote,
+            &mut [0; 16],
+        );
+        assert_eq!(answer.is_ok(), accepted);
+    }
+}

@@ -1,0 +1,229 @@
+//! The calls on a volume: each answer as the wrapper names it, as functions and
+//! as methods.
+
+use crate::common::{bytes, clashing, key, sealed, Triple, COUNT, SIZE};
+use mirror::{Place, Refusal, Survey, Verdict, Volume, TAG_BYTES};
+
+/// The three images.
+#[derive(Clone, Debug, PartialEq)]
+struct Images {
+    local: Vec<u8>,
+    tags: Vec<u8>,
+    remote: Vec<u8>,
+}
+
+impl Images {
+    fn blanked() -> Images {
+        let mut images = Images {
+            local: vec![1; SIZE * COUNT],
+            tags: vec![2; TAG_BYTES * COUNT],
+            remote: vec![3; SIZE * COUNT],
+        };
+        for number in 0..COUNT {
+            assert_eq!(images.volume(&key()).blank(number), Ok(()));
+        }
+        images
+    }
+
+    fn volume<'a>(&'a mut self, key: &'a [u8]) -> Volume<'a> {
+        Volume {
+            key,
+            size: SIZE,
+            count: COUNT,
+            local: &mut self.local,
+            tags: &mut self.tags,
+            remote: &mut self.remote,
+        }
+    }
+
+    fn put(&mut self, number: usize, triple: &Triple) {
+        self.local[number * SIZE..][..SIZE].copy_from_slice(&triple.local);
+        self.tags[number * TAG_BYTES..][..TAG_BYTES].copy_from_slice(&triple.tag);
+        self.remote[number * SIZE..][..SIZE].copy_from_slice(&triple.remote);
+    }
+}
+
+#[test]
+fn blank_seals_zeros() {
+    let mut due = Images {
+        local: vec![0; SIZE * COUNT],
+        tags: vec![0; TAG_BYTES * COUNT],
+        remote: vec![0; SIZE * COUNT],
+    };
+    for number in 0..COUNT {
+        due.put(number, &sealed(number as u64, &[0; SIZE]));
+    }
+    assert_eq!(Images::blanked(), due);
+}
+
+#[test]
+fn a_write_in_three_stages() {
+    let (key, plaintext) = (key(), bytes(1));
+    let mut images = Images::blanked();
+    let mut volume = images.volume(&key);
+    let mut output = [0xee; SIZE];
+    let early = Err(Refusal::StageOrder);
+    assert_eq!(volume.second_stage(1, &plaintext), early);
+    assert_eq!(volume.third_stage(1, &plaintext), early);
+    assert_eq!(volume.first_stage(1, &plaintext), Ok(()));
+
+    let at_local = Ok(Verdict::Doubtful(Place::Local));
+    assert_eq!(volume.read(1, &mut output), at_local);
+    assert_eq!(output, [0; SIZE]);
+    assert_eq!(volume.first_stage(1, &plaintext), early);
+    assert_eq!(volume.second_stage(1, &plaintext), Ok(()));
+
+    let at_remote = Ok(Verdict::Doubtful(Place::Remote));
+    assert_eq!(volume.read(1, &mut output), at_remote);
+    assert_eq!(output[..], plaintext);
+    assert_eq!(volume.third_stage(1, &plaintext), Ok(()));
+    assert_eq!(volume.read(1, &mut output), Ok(Verdict::Whole));
+
+    let mut due = Images::blanked();
+    due.put(1, &sealed(1, &plaintext));
+    assert_eq!(images, due);
+}
+
+#[test]
+fn mends_each_place() {
+    let due = Images::blanked();
+    let key = key();
+    for place in [Place::Local, Place::Tag, Place::Remote] {
+        let mut images = due.clone();
+        match place {
+            Place::Local => images.local[2 * SIZE] ^= 1,
+            Place::Tag => images.tags[2 * TAG_BYTES] ^= 1,
+            Place::Remote => images.remote[2 * SIZE] ^= 1,
+        }
+        let mut volume = images.volume(&key);
+        assert_eq!(volume.mend(2), Ok(Verdict::Doubtful(place)));
+        assert_eq!(volume.mend(2), Ok(Verdict::Whole));
+        assert_eq!(images, due);
+    }
+}
+
+/// Sector 0 clashing, 1 doubtful, 2 lost.
+fn damaged() -> Images {
+    let mut images = Images::blanked();
+    images.put(0, &clashing(0).0);
+    images.remote[SIZE] ^= 1;
+    images.local[2 * SIZE] ^= 1;
+    images.tags[2 * TAG_BYTES] ^= 1;
+    images
+}
+
+#[test]
+fn lost_and_clashing_change_nothing() {
+    let key = key();
+    for (number, refusal) in [(0, Refusal::Clashing), (2, Refusal::Lost)] {
+        let mut images = damaged();
+        let mut volume = images.volume(&key);
+        let mut output = [0xee; SIZE];
+        assert_eq!(volume.read(number, &mut output), Err(refusal));
+        assert_eq!(volume.mend(number), Err(refusal));
+        assert_eq!((images, output), (damaged(), [0xee; SIZE]));
+    }
+}
+
+#[test]
+fn surveys() {
+    let key = key();
+    let mut images = damaged();
+    let mut volume = images.volume(&key);
+    let mut list = [9; COUNT + 2];
+    let mut due = Survey {
+        whole: 0,
+        doubtful: 1,
+        clashing: 1,
+        lost: 1,
+        health: 0,
+    };
+    assert_eq!(volume.survey(&mut list), Ok((due, &[0, 1, 2][..])));
+    assert_eq!(list, [0, 1, 2, 9, 9]);
+
+    assert!(volume.mend(1).is_ok());
+    let mut list = [9; COUNT];
+    due = Survey {
+        whole: 1,
+        doubtful: 0,
+        health: 333,
+        ..due
+    };
+    assert_eq!(due.not_whole(), 2);
+    assert_eq!(volume.survey(&mut list), Ok((due, &[0, 2][..])));
+    assert_eq!(list, [0, 2, 9]);
+
+    let short = volume.survey(&mut list[..COUNT - 1]);
+    assert_eq!(short, Err(Refusal::ListLength));
+    assert_eq!(list, [0, 2, 9]);
+}
+
+/// The answers of the seven calls on a volume, with an output and a plaintext of
+/// no bytes and a list of no entries.
+fn refusals(volume: &mut Volume, number: usize) -> [Option<Refusal>; 7] {
+    [
+        volume.blank(number).err(),
+        volume.mend(number).err(),
+        volume.first_stage(number, &[]).err(),
+        volume.second_stage(number, &[]).err(),
+        volume.third_stage(number, &[]).err(),
+        volume.read(number, &mut []).err(),
+        volume.survey(&mut []).err(),
+    ]
+}
+
+#[test]
+fn refusals_in_order() {
+    let good_key = key();
+    let mut images = damaged();
+    let mut volume = images.volume(&good_key);
+    let [_, _, others @ .., survey] = refusals(&mut volume, COUNT - 1);
+    assert_eq!(others, [Some(Refusal::OtherLength); 4]);
+    assert_eq!(survey, Some(Refusal::ListLength));
+
+    let [others @ .., _] = refusals(&mut volume, COUNT);
+    assert_eq!(others, [Some(Refusal::SectorNumber); 6]);
+    for count in [0, COUNT + 1, mirror::MOST_SECTORS + 1] {
+        volume.count = count;
+        let due = [Some(Refusal::VolumeShape); 7];
+        assert_eq!(refusals(&mut volume, usize::MAX), due);
+    }
+    volume.size = 15;
+    let due = [Some(Refusal::SectorSize); 7];
+    assert_eq!(refusals(&mut volume, usize::MAX), due);
+    volume.key = &good_key[1..];
+    let due = [Some(Refusal::KeyLength); 7];
+    assert_eq!(refusals(&mut volume, usize::MAX), due);
+}
+
+#[test]
+fn refused_calls_change_nothing() {
+    let key = key();
+    let mut images = Images::blanked();
+    let mut volume = images.volume(&key);
+    assert_eq!(volume.mend(COUNT), Err(Refusal::SectorNumber));
+    assert_eq!(volume.blank(COUNT), Err(Refusal::SectorNumber));
+    for plaintext in [&bytes(0)[1..], &[0; SIZE + 1]] {
+        let due = Err(Refusal::OtherLength);
+        assert_eq!(volume.first_stage(0, plaintext), due);
+        assert_eq!(volume.second_stage(0, plaintext), due);
+        assert_eq!(volume.third_stage(0, plaintext), due);
+    }
+    assert_eq!(images, Images::blanked());
+}
+
+#[test]
+fn each_image_has_its_length() {
+    let key = key();
+    for image in 0..3 {
+        let mut images = Images::blanked();
+        let Images {
+            local,
+            tags,
+            remote,
+        } = &mut images;
+        [local, tags, remote][image].pop();
+        let refused = images.volume(&key).blank(0);
+        assert_eq!(refused, Err(Refusal::VolumeShape));
+    }
+}
