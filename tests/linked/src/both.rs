@@ -20,16 +20,18 @@ impl Calls for Both {
     }
 
     fn survey(&self, given: &Given, images: &Images, list: &mut [u32]) -> Result<Survey, Refusal> {
-        let mut lent = list.to_vec();
-        let mut counts = [FILL; 5];
-        let number = library_survey(given, images, &mut lent, &mut counts);
+        let before = list.to_vec();
         let answer = Reference.survey(given, images, list);
         let due = match &answer {
             Ok(survey) => (0, counts_of(survey)),
             Err(refusal) => (u32::from(refusal.number()), [FILL; 5]),
         };
-        assert_eq!((number, counts), due, "survey");
-        assert_eq!(lent, list, "survey left another list");
+        for survey in [crate::survey, crate::survey_without_wrapper] {
+            let (mut lent, mut counts) = (before.clone(), [FILL; 5]);
+            let number = library_survey(survey, given, images, &mut lent, &mut counts);
+            assert_eq!((number, counts), due, "survey");
+            assert_eq!(lent, list, "survey left another list");
+        }
         answer
     }
 }
@@ -48,10 +50,18 @@ fn counts_of(survey: &Survey) -> [u64; 5] {
     .map(|count| count as u64)
 }
 
-fn library_survey(given: &Given, images: &Images, list: &mut [u32], counts: &mut [u64; 5]) -> u32 {
+type SurveyCall = fn(&[u8], usize, usize, &[u8], &[u8], &[u8], &mut [u32], &mut [u64; 5]) -> u32;
+
+fn library_survey(
+    survey: SurveyCall,
+    given: &Given,
+    images: &Images,
+    list: &mut [u32],
+    counts: &mut [u64; 5],
+) -> u32 {
     let Given { key, size, count } = given;
     let Images { local, tag, remote } = images;
-    crate::survey(key, *size, *count, local, tag, remote, list, counts)
+    survey(key, *size, *count, local, tag, remote, list, counts)
 }
 
 fn library_run(request: &Request, images: &mut Images, out: &mut [u8]) -> u32 {

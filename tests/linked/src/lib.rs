@@ -1,117 +1,196 @@
-//! The compiled library's calls as functions on slices. Each gives the number
-//! of the answer.
+//! The compiled library's calls through the Rust wrapper, each with the number
+//! of its answer.
 
 // The calls take what the requirement names, one parameter for each.
 #![allow(clippy::too_many_arguments)]
 
 pub mod both;
 
-macro_rules! slice {
-    (shared) => {
-        &[u8]
-    };
-    (lent) => {
-        &mut [u8]
-    };
+use mirror::{ffi, Refusal, Side, Verdict};
+
+fn done(answer: Result<(), Refusal>) -> u32 {
+    answer.map_or_else(Refusal::number, |()| 0)
 }
 
-macro_rules! pointer {
-    (shared) => { *const u8 };
-    (lent) => { *mut u8 };
+fn judged(answer: Result<Verdict, Refusal>) -> u32 {
+    answer.map_or_else(Refusal::number, Verdict::number)
 }
 
-macro_rules! start {
-    (shared, $slice:ident) => {
-        $slice.as_ptr()
-    };
-    (lent, $slice:ident) => {
-        $slice.as_mut_ptr()
-    };
+pub fn seal(
+    key: &[u8],
+    address: u64,
+    plain: &[u8],
+    local: &mut [u8],
+    remote: &mut [u8],
+    tag: &mut [u8],
+) -> u32 {
+    done(mirror::seal(key, address, plain, local, remote, tag))
 }
 
-/// Declares the library's functions, to which a slice goes as a pointer and a
-/// length, and a safe function for each.
-macro_rules! calls {
-    ($($name:ident = $symbol:ident(
-        $($key:ident: $as_key:ident)?; $($number:ident: $type:ty),*; $($part:ident: $how:ident),*
-    );)*) => {
-        extern "C" {
-            $(fn $symbol(
-                $(_: pointer!($as_key), _: usize,)? $(_: $type,)* $(_: pointer!($how), _: usize,)*
-            ) -> u32;)*
-        }
-        $(pub fn $name(
-            $($key: slice!($as_key),)? $($number: $type,)* $($part: slice!($how),)*
-        ) -> u32 {
-            // SAFETY: each pointer and length is that of one slice, which lives
-            // through the call, and a writable one overlaps no other.
-            unsafe {
-                $symbol(
-                    $(start!($as_key, $key), $key.len(),)? $($number,)*
-                    $(start!($how, $part), $part.len(),)*
-                )
-            }
-        })*
-    };
+pub fn judge(
+    key: &[u8],
+    address: u64,
+    local: &[u8],
+    tag: &[u8],
+    remote: &[u8],
+    out: &mut [u8],
+) -> u32 {
+    judged(mirror::judge(key, address, local, tag, remote, out))
 }
 
-calls! {
-    seal = mirror_seal(
-        key: shared; address: u64; plain: shared, local: lent, remote: lent, tag: lent
-    );
-    judge = mirror_judge(
-        key: shared; address: u64; local: shared, tag: shared, remote: shared, out: lent
-    );
-    open = mirror_open(
-        key: shared; address: u64, side: u32; sector: shared, tag: shared, out: lent
-    );
-    rebuild = mirror_rebuild(
-        key: shared; address: u64, side: u32; sector: shared, tag: shared, out: lent
-    );
-    combine = mirror_combine(; ; local: shared, remote: shared, out: lent);
-    blank = mirror_blank(
-        key: shared; s: usize, n: usize, number: usize; local: lent, tags: lent, remote: lent
-    );
-    first_stage = mirror_first_stage(
-        key: shared; s: usize, n: usize, number: usize;
-        plain: shared, local: lent, tags: shared, remote: shared
-    );
-    second_stage = mirror_second_stage(
-        key: shared; s: usize, n: usize, number: usize;
-        plain: shared, local: shared, tags: lent, remote: shared
-    );
-    third_stage = mirror_third_stage(
-        key: shared; s: usize, n: usize, number: usize;
-        plain: shared, local: shared, tags: shared, remote: lent
-    );
-    read = mirror_read(
-        key: shared; s: usize, n: usize, number: usize;
-        local: shared, tags: shared, remote: shared, out: lent
-    );
-    mend = mirror_mend(
-        key: shared; s: usize, n: usize, number: usize; local: lent, tags: lent, remote: lent
-    );
+type Opening = fn(&[u8], u64, Side, &[u8], &[u8], &mut [u8]) -> Result<(), Refusal>;
+
+type UnsafeOpening = unsafe extern "C" fn(
+    *const u8,
+    usize,
+    u64,
+    u32,
+    *const u8,
+    usize,
+    *const u8,
+    usize,
+    *mut u8,
+    usize,
+) -> u32;
+
+/// Sides that the wrapper has no name for go to the library itself.
+fn with_side(
+    named: Opening,
+    unnamed: UnsafeOpening,
+    key: &[u8],
+    address: u64,
+    side: u32,
+    sector: &[u8],
+    tag: &[u8],
+    out: &mut [u8],
+) -> u32 {
+    match side {
+        0 => done(named(key, address, Side::Local, sector, tag, out)),
+        1 => done(named(key, address, Side::Remote, sector, tag, out)),
+        // SAFETY: each pointer and length is that of one slice, which lives
+        // through the call, and the writable one overlaps no other.
+        _ => unsafe {
+            unnamed(
+                key.as_ptr(),
+                key.len(),
+                address,
+                side,
+                sector.as_ptr(),
+                sector.len(),
+                tag.as_ptr(),
+                tag.len(),
+                out.as_mut_ptr(),
+                out.len(),
+            )
+        },
+    }
 }
 
-extern "C" {
-    fn mirror_survey(
-        key: *const u8,
-        key_len: usize,
-        s: usize,
-        n: usize,
-        local: *const u8,
-        local_len: usize,
-        tags: *const u8,
-        tags_len: usize,
-        remote: *const u8,
-        remote_len: usize,
-        list: *mut u32,
-        list_len: usize,
-        counts: *mut [u64; 5],
-    ) -> u32;
+pub fn open(key: &[u8], address: u64, side: u32, sector: &[u8], tag: &[u8], out: &mut [u8]) -> u32 {
+    let (named, unnamed) = (mirror::open, ffi::mirror_open);
+    with_side(named, unnamed, key, address, side, sector, tag, out)
 }
 
-/// The counts are whole, doubtful, clashing, lost and the health.
+pub fn rebuild(
+    key: &[u8],
+    address: u64,
+    side: u32,
+    sector: &[u8],
+    tag: &[u8],
+    out: &mut [u8],
+) -> u32 {
+    let (named, unnamed) = (mirror::rebuild, ffi::mirror_rebuild);
+    with_side(named, unnamed, key, address, side, sector, tag, out)
+}
+
+pub fn combine(local: &[u8], remote: &[u8], out: &mut [u8]) -> u32 {
+    done(mirror::combine(local, remote, out))
+}
+
+pub fn blank(
+    key: &[u8],
+    s: usize,
+    n: usize,
+    number: usize,
+    local: &mut [u8],
+    tags: &mut [u8],
+    remote: &mut [u8],
+) -> u32 {
+    done(mirror::blank(key, s, n, number, local, tags, remote))
+}
+
+pub fn first_stage(
+    key: &[u8],
+    s: usize,
+    n: usize,
+    number: usize,
+    plain: &[u8],
+    local: &mut [u8],
+    tags: &[u8],
+    remote: &[u8],
+) -> u32 {
+    done(mirror::first_stage(
+        key, s, n, number, plain, local, tags, remote,
+    ))
+}
+
+pub fn second_stage(
+    key: &[u8],
+    s: usize,
+    n: usize,
+    number: usize,
+    plain: &[u8],
+    local: &[u8],
+    tags: &mut [u8],
+    remote: &[u8],
+) -> u32 {
+    done(mirror::second_stage(
+        key, s, n, number, plain, local, tags, remote,
+    ))
+}
+
+pub fn third_stage(
+    key: &[u8],
+    s: usize,
+    n: usize,
+    number: usize,
+    plain: &[u8],
+    local: &[u8],
+    tags: &[u8],
+    remote: &mut [u8],
+) -> u32 {
+    done(mirror::third_stage(
+        key, s, n, number, plain, local, tags, remote,
+    ))
+}
+
+pub fn read(
+    key: &[u8],
+    s: usize,
+    n: usize,
+    number: usize,
+    local: &[u8],
+    tags: &[u8],
+    remote: &[u8],
+    out: &mut [u8],
+) -> u32 {
+    judged(mirror::read(key, s, n, number, local, tags, remote, out))
+}
+
+pub fn mend(
+    key: &[u8],
+    s: usize,
+    n: usize,
+    number: usize,
+    local: &mut [u8],
+    tags: &mut [u8],
+    remote: &mut [u8],
+) -> u32 {
+    judged(mirror::mend(key, s, n, number, local, tags, remote))
+}
+
+/// The counts are whole, doubtful, clashing, lost and the health. The numbers
+/// that the wrapper gives must be the front of the list.
 pub fn survey(
     key: &[u8],
     s: usize,
@@ -122,9 +201,41 @@ pub fn survey(
     list: &mut [u32],
     counts: &mut [u64; 5],
 ) -> u32 {
-    // SAFETY: as in the other calls; the counts go as a pointer alone.
+    let start = list.as_ptr();
+    match mirror::survey(key, s, n, local, tags, remote, list) {
+        Ok((found, listed)) => {
+            assert_eq!((listed.as_ptr(), listed.len()), (start, n - found.whole));
+            let found = [
+                found.whole,
+                found.doubtful,
+                found.clashing,
+                found.lost,
+                found.health,
+            ];
+            *counts = found.map(|count| count as u64);
+            0
+        }
+        Err(refusal) => refusal.number(),
+    }
+}
+
+/// The survey without the wrapper, which has counts of its own: what a refused
+/// call leaves in the caller's counts shows only here.
+pub fn survey_without_wrapper(
+    key: &[u8],
+    s: usize,
+    n: usize,
+    local: &[u8],
+    tags: &[u8],
+    remote: &[u8],
+    list: &mut [u32],
+    counts: &mut [u64; 5],
+) -> u32 {
+    // SAFETY: each pointer and length is that of one slice, which lives through
+    // the call, and a writable one overlaps no other; the counts go as a
+    // pointer alone.
     unsafe {
-        mirror_survey(
+        ffi::mirror_survey(
             key.as_ptr(),
             key.len(),
             s,
