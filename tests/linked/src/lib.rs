@@ -6,14 +6,39 @@
 
 pub mod both;
 
-use mirror::{ffi, Refusal, Side, Verdict};
+use mirror::{ffi, Place, Refusal, Side, Verdict};
+
+/// The requirement's number for a refusal, by its name. The wrapper's own number
+/// would be the library's again, whatever name it stands under.
+fn refusal_number(refusal: Refusal) -> u32 {
+    match refusal {
+        Refusal::KeyLength => 1,
+        Refusal::SectorSize => 2,
+        Refusal::OtherLength => 3,
+        Refusal::UnknownSide => 4,
+        Refusal::NoneFits => 5,
+        Refusal::Lost => 6,
+        Refusal::Clashing => 7,
+        Refusal::VolumeShape => 8,
+        Refusal::SectorNumber => 9,
+        Refusal::StageOrder => 10,
+        Refusal::ListLength => 11,
+        _ => panic!("{refusal:?} has no number here"),
+    }
+}
 
 fn done(answer: Result<(), Refusal>) -> u32 {
-    answer.map_or_else(Refusal::number, |()| 0)
+    answer.map_or_else(refusal_number, |()| 0)
 }
 
 fn judged(answer: Result<Verdict, Refusal>) -> u32 {
-    answer.map_or_else(Refusal::number, Verdict::number)
+    match answer {
+        Ok(Verdict::Whole) => 0,
+        Ok(Verdict::Doubtful(Place::Local)) => 0x81,
+        Ok(Verdict::Doubtful(Place::Tag)) => 0x82,
+        Ok(Verdict::Doubtful(Place::Remote)) => 0x83,
+        Err(refusal) => refusal_number(refusal),
+    }
 }
 
 pub fn seal(
@@ -215,7 +240,7 @@ pub fn survey(
             *counts = found.map(|count| count as u64);
             0
         }
-        Err(refusal) => refusal.number(),
+        Err(refusal) => refusal_number(refusal),
     }
 }
 
