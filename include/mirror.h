@@ -35,6 +35,20 @@
  * POWER CUTS. The calls on a volume work on images in memory. What is promised about power cuts holds if the caller sees to this:
  *   - what a call wrote has reached the medium before the next call on that sector begins;
  *   - after a cut a tag whose write had begun is the old one or the new one, never a mixture. A half-written sector may hold anything.
+ *
+ * EXAMPLE, linked by `cc -Iinclude program.c target/staticlib/libmirror.a`:
+ *
+ *   uint8_t key[MIRROR_KEY_BYTES], plain[512], local[512], remote[512], tag[MIRROR_TAG_BYTES], out[512];
+ *   ...
+ *   if (mirror_seal(key, sizeof key, 7, plain, sizeof plain, local, sizeof local, remote, sizeof remote, tag, sizeof tag) != MIRROR_DONE)
+ *       return -1;
+ *   switch (mirror_judge(key, sizeof key, 7, local, sizeof local, tag, sizeof tag, remote, sizeof remote, out, sizeof out)) {
+ *   case MIRROR_WHOLE:           return 0;
+ *   case MIRROR_DOUBTFUL_LOCAL:
+ *   case MIRROR_DOUBTFUL_TAG:
+ *   case MIRROR_DOUBTFUL_REMOTE: return 1;  (out has the plaintext; one place is damaged: seal it again)
+ *   default:                     return -1; (refused: out is as it was)
+ *   }
  */
 #ifndef MIRROR_H
 #define MIRROR_H

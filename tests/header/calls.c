@@ -256,9 +256,14 @@ static void rebuilds(void)
 
 static void combines(void)
 {
+    uint8_t zeros[SIZE];
     GIVES(MIRROR_DONE, mirror_combine(LOCAL, REMOTE, OUT));
     DUE(out, plain, SIZE);
     NO_MORE("mirror_combine");
+    memset(zeros, 0, SIZE);
+    GIVES(MIRROR_DONE, mirror_combine(LOCAL, LOCAL, OUT));
+    DUE(out, zeros, SIZE);
+    NO_MORE("mirror_combine of one buffer lent twice");
     REFUSES(MIRROR_SECTOR_SIZE, mirror_combine(NOTHING, NOTHING, NOTHING));
     REFUSES(MIRROR_OTHER_LENGTH, mirror_combine(LOCAL, NOTHING, OUT));
     REFUSES(MIRROR_OTHER_LENGTH, mirror_combine(LOCAL, REMOTE, NOTHING));
