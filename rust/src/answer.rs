@@ -135,48 +135,55 @@ impl Refusal {
     }
 }
 
-impl fmt::Display for Refusal {
-    fn fmt(&self, f: &mut fmt::Formatter<'_>) -> fmt::Result {
-        f.write_str(match self {
-            Refusal::KeyLength => {
-                "the key does not have 32 bytes: give the hash key and then the AES key, 16 bytes each"
-            }
-            Refusal::SectorSize => {
-                "the size is not a multiple of 16 from 16 to 4,096: \
-                 give the size that the sector or the volume was made with"
-            }
+impl Refusal {
+    fn what_is_wrong(self) -> &'static str {
+        match self {
+            Refusal::KeyLength => "the key does not have 32 bytes",
+            Refusal::SectorSize => "the size is not a multiple of 16 from 16 to 4,096",
             Refusal::OtherLength => {
-                "a plaintext, a sector, a tag or an output has another length than it must have: \
-                 give as many bytes as the sector's size, and 16 for a tag"
+                "a plaintext, a sector, a tag or an output has another length than it must have"
             }
-            Refusal::UnknownSide => "the side is neither 0 (local) nor 1 (remote): name one of the two",
-            Refusal::NoneFits => {
-                "no plaintext fits this side and this tag: try the other side, \
-                 or judge the sector if both sides are there"
+            Refusal::UnknownSide => "the side is neither 0 (local) nor 1 (remote)",
+            Refusal::NoneFits => "no plaintext fits this side and this tag",
+            Refusal::Lost => "lost, no plaintext fits two places",
+            Refusal::Clashing => "clashing, more than one plaintext fits two places",
+            Refusal::VolumeShape => {
+                "the count is not 1 to 65,536, or an image has another length than size and count ask for"
             }
+            Refusal::SectorNumber => "the sector's number is not below the count",
+            Refusal::StageOrder => "this stage is not due",
+            Refusal::ListLength => "the list is shorter than the count",
+        }
+    }
+
+    fn what_to_do(self) -> &'static str {
+        match self {
+            Refusal::KeyLength => "give the hash key and then the AES key, 16 bytes each",
+            Refusal::SectorSize => "give the size that the sector or the volume was made with",
+            Refusal::OtherLength => "give as many bytes as the sector's size, and 16 for a tag",
+            Refusal::UnknownSide => "name one of the two",
+            Refusal::NoneFits => "try the other side, or judge the sector if both are there",
             Refusal::Lost => {
-                "lost, no plaintext fits two places: see by other sectors whether the key is right; \
+                "see by other sectors whether the key is right; \
                  if it is, blank the sector and write it from a backup"
             }
             Refusal::Clashing => {
-                "clashing, more than one plaintext fits two places: repeat the third stage if a write \
-                 was under way; otherwise open both sides, choose, blank the sector and write the choice"
+                "repeat the third stage if a write was under way; \
+                 otherwise open both sides, choose, blank the sector and write the choice"
             }
-            Refusal::VolumeShape => {
-                "the count is not 1 to 65,536, or an image has another length than size and count ask for: \
-                 check the size, the count and the three images"
-            }
-            Refusal::SectorNumber => {
-                "the sector's number is not below the count: sectors count from 0"
-            }
+            Refusal::VolumeShape => "check the size, the count and the three images",
+            Refusal::SectorNumber => "sectors count from 0, so give a number below the count",
             Refusal::StageOrder => {
-                "this stage is not due: read the sector, mend it if it is doubtful, \
-                 and begin the write again with the first stage"
+                "read the sector, mend it if it is doubtful, and begin again with the first stage"
             }
-            Refusal::ListLength => {
-                "the list is shorter than the count: lend one entry for each sector"
-            }
-        })
+            Refusal::ListLength => "lend one entry for each sector",
+        }
+    }
+}
+
+impl fmt::Display for Refusal {
+    fn fmt(&self, f: &mut fmt::Formatter<'_>) -> fmt::Result {
+        write!(f, "{}: {}", self.what_is_wrong(), self.what_to_do())
     }
 }
 
