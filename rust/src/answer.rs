@@ -133,9 +133,7 @@ impl Refusal {
     pub fn from_number(number: u32) -> Option<Refusal> {
         Self::ALL.into_iter().find(|r| r.number() == number)
     }
-}
 
-impl Refusal {
     fn what_is_wrong(self) -> &'static str {
         match self {
             Refusal::KeyLength => "the key does not have 32 bytes",
