@@ -1,0 +1,146 @@
+//! The three implementations: each call as a function of a volume and the
+//! number of a sector, which gives the number of the answer.
+
+use crate::volume::Volume;
+use reference::answer::answer_number;
+use reference::volume::part;
+
+/// The calls that are timed.
+#[derive(Clone, Copy, PartialEq, Eq)]
+pub enum Call {
+    Seal,
+    Judge,
+    Read,
+    Mend,
+    Survey,
+}
+
+pub struct Implementation {
+    pub name: &'static str,
+    pub run: fn(Call, &mut Volume, usize) -> u32,
+}
+
+/// The proved library first, the other two behind it.
+pub const ALL: [Implementation; 3] = [
+    Implementation {
+        name: "library",
+        run: library,
+    },
+    Implementation {
+        name: "rust",
+        run: rust,
+    },
+    Implementation { name: "c", run: c },
+];
+
+/// Defines a function that makes the calls of a module.
+macro_rules! calls_of {
+    ($name:ident, $module:path) => {
+        fn $name(call: Call, v: &mut Volume, number: usize) -> u32 {
+            use $module as calls;
+            let (s, n) = (v.size, v.count);
+            let (side, tag) = (part(number, s), part(number, 16));
+            let (key, local, tags, remote) = (&v.key, &mut v.local, &mut v.tags, &mut v.remote);
+            let out = &mut v.out;
+            match call {
+                Call::Seal => {
+                    let (plain, local) = (&v.plain[side.clone()], &mut local[side.clone()]);
+                    let (remote, tag) = (&mut remote[side], &mut tags[tag]);
+                    calls::seal(key, number as u64, plain, local, remote, tag)
+                }
+                Call::Judge => {
+                    let (local, remote) = (&local[side.clone()], &remote[side]);
+                    calls::judge(key, number as u64, local, &tags[tag], remote, out)
+                }
+                Call::Read => calls::read(key, s, n, number, local, tags, remote, out),
+                Call::Mend => calls::mend(key, s, n, number, local, tags, remote),
+                Call::Survey => {
+                    let (list, counts) = (&mut v.list, &mut v.counts);
+                    calls::survey(key, s, n, local, tags, remote, list, counts)
+                }
+            }
+        }
+    };
+}
+calls_of!(library, linked);
+calls_of!(rust, self::rust_calls);
+calls_of!(c, crate::plain);
+
+/// The independent implementation's calls with the parameters of `linked`.
+mod rust_calls {
+    #![allow(clippy::too_many_arguments)]
+    use super::answer_number;
+    use reference::volume;
+
+    pub fn seal(
+        key: &[u8],
+        address: u64,
+        plain: &[u8],
+        local: &mut [u8],
+        remote: &mut [u8],
+        tag: &mut [u8],
+    ) -> u32 {
+        let answer = reference::seal::seal(key, address, plain, local, remote, tag);
+        u32::from(answer_number(&answer))
+    }
+
+    pub fn judge(
+        key: &[u8],
+        address: u64,
+        local: &[u8],
+        tag: &[u8],
+        remote: &[u8],
+        out: &mut [u8],
+    ) -> u32 {
+        let answer = reference::seal::judge(key, address, local, tag, remote, out);
+        u32::from(answer_number(&answer))
+    }
+
+    pub fn read(
+        key: &[u8],
+        s: usize,
+        n: usize,
+        number: usize,
+        local: &[u8],
+        tags: &[u8],
+        remote: &[u8],
+        out: &mut [u8],
+    ) -> u32 {
+        let answer = volume::read(key, s, n, local, tags, remote, number, out);
+        u32::from(answer_number(&answer))
+    }
+
+    pub fn mend(
+        key: &[u8],
+        s: usize,
+        n: usize,
+        number: usize,
+        local: &mut [u8],
+        tags: &mut [u8],
+        remote: &mut [u8],
+    ) -> u32 {
+        let answer = volume::mend(key, s, n, local, tags, remote, number);
+        u32::from(answer_number(&answer))
+    }
+
+    pub fn survey(
+        key: &[u8],
+        s: usize,
+        n: usize,
+        local: &[u8],
+        tags: &[u8],
+        remote: &[u8],
+        list: &mut [u32],
+        counts: &mut [u64; 5],
+    ) -> u32 {
+        match volume::survey(key, s, n, local, tags, remote, list) {
+            Ok(found) => {
+                let kinds = [found.whole, found.doubtful, found.clashing, found.lost];
+                counts[..4].copy_from_slice(&kinds.map(|count| count as u64));
+                counts[4] = found.health as u64;
+                0
+            }
+            Err(refusal) => u32::from(refusal.number()),
+        }
+    }
+}
