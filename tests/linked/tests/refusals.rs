@@ -94,38 +94,37 @@ fn parameters(call: Call) -> Vec<Parameter> {
 /// narrower number would take for the right one.
 fn values(parameter: Parameter, right: &Arguments) -> Vec<usize> {
     let (s, n) = (right.s, right.n);
-    let about = |length: usize| {
-        let less = [length - s, length - 16, length - 1];
-        [less, [length + 1, length + 16, length + s]].concat()
-    };
+    let wide = |number| vec![number + (1 << 32), number + (1 << 60), usize::MAX];
     match parameter {
         Contents => (0..if s > 16 { 5 } else { 4 }).collect(),
         SizeOfAll => SIZES.to_vec(),
         CountOfAll => vec![0, 1, 2, n - 1, n + 1],
         Key => vec![0, 1, 16, 31, 33, 48, 64],
         Side => vec![0, 1, 2, 255, 256, 257, u32::MAX as usize],
-        Size => {
-            let wide = [1 << 60, 1 << 63, usize::MAX, s + (1 << 32), s + (1 << 60)];
-            [&SIZES[..], &about(s), &wide].concat()
-        }
+        Size => [sizes_about(s), wide(s), vec![1 << 60, 1 << 63]].concat(),
         Count => {
-            let wide = [1 << 60, usize::MAX, n + (1 << 32), n + (1 << 60)];
-            let bounds = [0, 1, 2, n - 1, n + 1, 65_535, 65_536, 65_537];
-            [&bounds[..], &wide].concat()
+            let bounds = vec![0, 1, 2, n - 1, n + 1, 65_535, 65_536, 65_537];
+            [bounds, wide(n), vec![1 << 60]].concat()
         }
-        Number => {
-            let wide = [right.number + (1 << 32), right.number + (1 << 60)];
-            [&[0, n - 1, n, n + 1, 65_536, usize::MAX], &wide[..]].concat()
-        }
-        Plain | Sector | Out => [&SIZES[..], &about(s)].concat(),
-        Local | Remote if n == 1 => [&SIZES[..], &about(s)].concat(),
-        Local | Remote => [&[0, 16 * n], &about(n * s)[..]].concat(),
-        Tag => {
-            let of_image = [16 * n - 16, 16 * n - 1, 16 * n + 1, 16 * n + 16, n * s];
-            [&[0, 15, 17, 32], &of_image[..]].concat()
-        }
+        Number => [vec![0, n - 1, n, n + 1, 65_536], wide(right.number)].concat(),
+        Plain | Sector | Out => sizes_about(s),
+        Local | Remote if n == 1 => sizes_about(s),
+        Local | Remote => [vec![0, 16 * n], about(n * s, s)].concat(),
+        Tag => [vec![0, 15, 17, 32, n * s], about(16 * n, 16)].concat(),
         List => vec![0, n - 1, n + 1, 2 * n],
     }
+}
+
+/// A byte, a block and a sector fewer or more.
+fn about(length: usize, sector: usize) -> Vec<usize> {
+    [1, 16, sector]
+        .into_iter()
+        .flat_map(|step| [length - step, length + step])
+        .collect()
+}
+
+fn sizes_about(s: usize) -> Vec<usize> {
+    [SIZES.to_vec(), about(s, s)].concat()
 }
 
 fn faults(call: Call, right: &Arguments) -> Vec<Fault> {
@@ -141,27 +140,15 @@ fn faults(call: Call, right: &Arguments) -> Vec<Fault> {
 }
 
 fn apply(arguments: &mut Arguments, (parameter, value): Fault) {
-    let n = arguments.n;
     match parameter {
         Contents => spoil(arguments, value),
         SizeOfAll => {
             arguments.s = value;
-            for part in [
-                &mut arguments.plain,
-                &mut arguments.sector,
-                &mut arguments.out,
-            ] {
-                part.resize(value, FILL);
-            }
-            arguments.local.resize(n * value, FILL);
-            arguments.remote.resize(n * value, FILL);
+            follow(arguments);
         }
         CountOfAll => {
             arguments.n = value;
-            arguments.local.resize(value * arguments.s, FILL);
-            arguments.tag.resize(value * 16, FILL);
-            arguments.remote.resize(value * arguments.s, FILL);
-            arguments.list.resize(value, u32::from(FILL));
+            follow(arguments);
         }
         Key => arguments.key.resize(value, FILL),
         Side => arguments.side = value as u32,
@@ -176,6 +163,18 @@ fn apply(arguments: &mut Arguments, (parameter, value): Fault) {
         Out => arguments.out.resize(value, FILL),
         List => arguments.list.resize(value, u32::from(FILL)),
     }
+}
+
+/// Gives every lent part the length that follows from s and n.
+fn follow(arguments: &mut Arguments) {
+    let (s, n) = (arguments.s, arguments.n);
+    arguments.plain.resize(s, FILL);
+    arguments.sector.resize(s, FILL);
+    arguments.out.resize(s, FILL);
+    arguments.local.resize(n * s, FILL);
+    arguments.tag.resize(n * 16, FILL);
+    arguments.remote.resize(n * s, FILL);
+    arguments.list.resize(n, u32::from(FILL));
 }
 
 /// Damages one place (0 to 2) of the sector, or all three (3), or puts there
@@ -218,16 +217,18 @@ fn hold(arguments: &mut Arguments, held: &Sealed) {
     };
 }
 
-/// Arguments that the call takes. A call that writes finds other bytes there
-/// than it has to write.
+/// Arguments that the call takes.
 fn right(rng: &mut Rng, call: Call, s: usize, n: usize) -> Arguments {
-    let on_volume = call.is_on_volume();
-    let n = if on_volume { n } else { 1 };
+    let n = if call.is_on_volume() { n } else { 1 };
     let number = rng.below(n);
     let random = rng.next_u64();
     let mut arguments = Arguments {
         key: rng.bytes(32),
-        address: if on_volume { number as u64 } else { random },
+        address: if call.is_on_volume() {
+            number as u64
+        } else {
+            random
+        },
         side: (random & 1) as u32,
         s,
         n,
@@ -240,22 +241,30 @@ fn right(rng: &mut Rng, call: Call, s: usize, n: usize) -> Arguments {
         list: vec![u32::from(FILL); n],
         ..Arguments::none()
     };
-    let seal_one = |plain: &[u8]| sealed(&arguments.key, arguments.address, plain);
-    let (old, new) = (seal_one(&rng.bytes(s)), seal_one(&arguments.plain));
-    let [local, tag, remote] = match call {
-        Call::Seal | Call::Blank => return arguments,
-        Call::First => [&old, &old, &old],
-        Call::Second => [&new, &old, &old],
-        Call::Third => [&new, &new, &old],
-        _ => [&new, &new, &new],
-    };
-    let triple = Sealed {
-        local: local.local.clone(),
-        tag: tag.tag.clone(),
-        remote: remote.remote.clone(),
-    };
-    hold(&mut arguments, &triple);
+    let old = sealed(&arguments.key, arguments.address, &rng.bytes(s));
+    if let Some(triple) = found_by(call, &arguments, old) {
+        hold(&mut arguments, &triple);
+    }
     arguments
+}
+
+/// What the call finds in the sector, if not random bytes. What it has to write
+/// is not there yet.
+fn found_by(call: Call, arguments: &Arguments, old: Sealed) -> Option<Sealed> {
+    let new = sealed(&arguments.key, arguments.address, &arguments.plain);
+    match call {
+        Call::Seal | Call::Blank => None,
+        Call::First => Some(old),
+        Call::Second => Some(Sealed {
+            local: new.local,
+            ..old
+        }),
+        Call::Third => Some(Sealed {
+            remote: old.remote,
+            ..new
+        }),
+        _ => Some(new),
+    }
 }
 
 /// A call with right arguments, with every fault and with every two.

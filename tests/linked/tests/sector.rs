@@ -63,6 +63,15 @@ struct Seen {
     verdicts: BTreeMap<(String, u32), usize>,
 }
 
+impl Seen {
+    fn print(&self) {
+        for ((what, number), times) in &self.verdicts {
+            println!("{what}, {number:02x}: {times}");
+        }
+        self.tally.print();
+    }
+}
+
 /// A key and an address, under which sectors of one size are tried.
 struct Trial<'a> {
     rng: Rng,
@@ -160,11 +169,8 @@ impl<'a> Trial<'a> {
         };
         let (number, _) = self.seen.tally.make(Call::Judge, &given);
         assert_eq!(number, due.unwrap_or(number), "{what}");
-        *self
-            .seen
-            .verdicts
-            .entry((what.to_string(), number))
-            .or_default() += 1;
+        let verdicts = &mut self.seen.verdicts;
+        *verdicts.entry((what.to_string(), number)).or_default() += 1;
         self.seen.tally.make(Call::Combine, &given);
         for (side, sector) in [(0, &held.local), (1, &held.remote)] {
             let given = Arguments {
@@ -287,10 +293,7 @@ fn sectors_through_the_library() {
             tried.insert(size);
         }
     }
-    for ((what, number), times) in &seen.verdicts {
-        println!("{what}, {number:02x}: {times}");
-    }
-    seen.tally.print();
+    seen.print();
     println!("{} sizes, {rounds} rounds", tried.len());
     assert!(tried.len() == 256 || rounds < ROUNDS_OF_ALL_SIZES);
     // No call here is refused for a length or a number: refusals.rs has these.

@@ -73,6 +73,8 @@ impl Arguments {
 
     /// The numbers and lengths, for a message.
     fn shape(&self) -> String {
+        let numbers = format!("address {}, side {}", self.address, self.side);
+        let of_volume = format!("s {}, n {}, number {}", self.s, self.n, self.number);
         let lengths = [
             ("key", self.key.len()),
             ("plain", self.plain.len()),
@@ -83,15 +85,7 @@ impl Arguments {
             ("out", self.out.len()),
             ("list", self.list.len()),
         ];
-        let Arguments {
-            address,
-            side,
-            s,
-            n,
-            number,
-            ..
-        } = self;
-        format!("address {address}, side {side}, s {s}, n {n}, number {number}, {lengths:?}")
+        format!("{numbers}, {of_volume}, {lengths:?}")
     }
 }
 
@@ -117,25 +111,12 @@ impl Call {
         (number, lent)
     }
 
-    fn by_library(self, arguments: &mut Arguments) -> u32 {
-        let Arguments {
-            key,
-            address,
-            side,
-            s,
-            n,
-            number,
-            plain,
-            sector,
-            local,
-            tag,
-            remote,
-            out,
-            list,
-            counts,
-        } = arguments;
-        let (address, side) = (*address, *side);
-        let (s, n, i) = (*s, *n, *number);
+    fn by_library(self, lent: &mut Arguments) -> u32 {
+        let (key, address, side) = (&lent.key, lent.address, lent.side);
+        let (s, n, i) = (lent.s, lent.n, lent.number);
+        let (plain, sector, out) = (&lent.plain, &lent.sector, &mut lent.out);
+        let (local, tag, remote) = (&mut lent.local, &mut lent.tag, &mut lent.remote);
+        let (list, counts) = (&mut lent.list, &mut lent.counts);
         match self {
             Call::Seal => linked::seal(key, address, plain, local, remote, tag),
             Call::Judge => linked::judge(key, address, local, tag, remote, out),
@@ -152,28 +133,13 @@ impl Call {
         }
     }
 
-    fn by_reference(self, arguments: &mut Arguments) -> u32 {
-        if self == Call::Survey {
-            return survey_by_reference(arguments);
-        }
-        let Arguments {
-            key,
-            address,
-            side,
-            s,
-            n,
-            number,
-            plain,
-            sector,
-            local,
-            tag,
-            remote,
-            out,
-            ..
-        } = arguments;
+    fn by_reference(self, lent: &mut Arguments) -> u32 {
+        let (key, address) = (&lent.key, lent.address);
         // A side of more than a byte is as unknown as 255.
-        let (address, side) = (*address, u8::try_from(*side).unwrap_or(255));
-        let (s, n, i) = (*s, *n, *number);
+        let side = u8::try_from(lent.side).unwrap_or(255);
+        let (s, n, i) = (lent.s, lent.n, lent.number);
+        let (plain, sector, out) = (&lent.plain, &lent.sector, &mut lent.out);
+        let (local, tag, remote) = (&mut lent.local, &mut lent.tag, &mut lent.remote);
         u32::from(match self {
             Call::Seal => answer_number(&seal::seal(key, address, plain, local, remote, tag)),
             Call::Judge => answer_number(&seal::judge(key, address, local, tag, remote, out)),
@@ -192,38 +158,32 @@ impl Call {
             )),
             Call::Read => answer_number(&volume::read(key, s, n, local, tag, remote, i, out)),
             Call::Mend => answer_number(&volume::mend(key, s, n, local, tag, remote, i)),
-            Call::Survey => unreachable!("answered above"),
+            Call::Survey => survey_by_reference(lent),
         })
     }
 }
 
-/// The survey's answer is no number alone: its counts are lent here as the
-/// library has them.
-fn survey_by_reference(arguments: &mut Arguments) -> u32 {
-    let Arguments {
-        key,
-        s,
-        n,
+/// Writes what the survey counts where the library writes it.
+fn survey_by_reference(lent: &mut Arguments) -> u8 {
+    let (local, tag, remote) = (&lent.local, &lent.tag, &lent.remote);
+    match volume::survey(
+        &lent.key,
+        lent.s,
+        lent.n,
         local,
         tag,
         remote,
-        list,
-        counts,
-        ..
-    } = arguments;
-    match volume::survey(key, *s, *n, local, tag, remote, list) {
+        &mut lent.list,
+    ) {
         Ok(found) => {
-            let volume::Survey {
-                whole,
-                doubtful,
-                clashing,
-                lost,
-                health,
-            } = found;
-            **counts = [whole, doubtful, clashing, lost, health].map(|count| count as u64);
+            let judged = [found.whole, found.doubtful, found.clashing, found.lost];
+            for (count, number) in lent.counts.iter_mut().zip(judged) {
+                *count = number as u64;
+            }
+            lent.counts[4] = found.health as u64;
             0
         }
-        Err(refusal) => u32::from(refusal.number()),
+        Err(refusal) => refusal.number(),
     }
 }
 
