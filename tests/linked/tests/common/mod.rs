@@ -1,0 +1,224 @@
+//! The twelve calls over one record of arguments, each made by the library and
+//! by the independent implementation on copies of the same bytes.
+
+// Each test program makes some of the calls.
+#![allow(dead_code)]
+
+use std::collections::{BTreeMap, BTreeSet};
+
+use reference::answer::answer_number;
+use reference::{seal, volume};
+
+/// What a byte of an output holds before a call, so that a write shows.
+pub const FILL: u8 = 0x5a;
+
+#[derive(Clone, Copy, Debug, PartialEq, Eq, PartialOrd, Ord)]
+pub enum Call {
+    Seal,
+    Judge,
+    Open,
+    Rebuild,
+    Combine,
+    Blank,
+    First,
+    Second,
+    Third,
+    Read,
+    Mend,
+    Survey,
+}
+
+/// What the calls take; each takes its part of it. The lists of a copy end where
+/// their memory ends, so that valgrind sees a step beyond.
+#[derive(Clone, PartialEq, Eq)]
+pub struct Arguments {
+    pub key: Vec<u8>,
+    pub address: u64,
+    pub side: u32,
+    pub s: usize,
+    pub n: usize,
+    pub number: usize,
+    pub plain: Vec<u8>,
+    /// The side that is opened or rebuilt from.
+    pub sector: Vec<u8>,
+    pub local: Vec<u8>,
+    pub tag: Vec<u8>,
+    pub remote: Vec<u8>,
+    pub out: Vec<u8>,
+    pub list: Vec<u32>,
+    /// Whole, doubtful, clashing, lost, health.
+    pub counts: Box<[u64; 5]>,
+}
+
+impl Arguments {
+    /// Empty lists and zeros, to be filled in.
+    pub fn none() -> Arguments {
+        Arguments {
+            key: vec![],
+            address: 0,
+            side: 0,
+            s: 0,
+            n: 0,
+            number: 0,
+            plain: vec![],
+            sector: vec![],
+            local: vec![],
+            tag: vec![],
+            remote: vec![],
+            out: vec![],
+            list: vec![],
+            counts: Box::new([u64::from(FILL); 5]),
+        }
+    }
+
+    /// The numbers and lengths, for a message.
+    fn shape(&self) -> String {
+        let numbers = format!("address {}, side {}", self.address, self.side);
+        let of_volume = format!("s {}, n {}, number {}", self.s, self.n, self.number);
+        let lengths = [
+            ("key", self.key.len()),
+            ("plain", self.plain.len()),
+            ("sector", self.sector.len()),
+            ("local", self.local.len()),
+            ("tag", self.tag.len()),
+            ("remote", self.remote.len()),
+            ("out", self.out.len()),
+            ("list", self.list.len()),
+        ];
+        format!("{numbers}, {of_volume}, {lengths:?}")
+    }
+}
+
+impl Call {
+    pub fn is_on_volume(self) -> bool {
+        self >= Call::Blank
+    }
+
+    /// Makes the call twice and insists on one answer and the same bytes.
+    /// Gives the answer's number and the arguments as the call left them.
+    pub fn by_both(self, given: &Arguments) -> (u32, Arguments) {
+        let (mut lent, mut due) = (given.clone(), given.clone());
+        let number = self.by_library(&mut lent);
+        let due_number = self.by_reference(&mut due);
+        let shape = || format!("{self:?} with {}", given.shape());
+        assert_eq!(number, due_number, "{}", shape());
+        if self == Call::Survey && number == 0 {
+            // Only the order of the list is free.
+            let listed = due.n - due.counts[0] as usize;
+            lent.list[..listed].sort_unstable();
+        }
+        assert!(lent == due, "{} left other bytes", shape());
+        (number, lent)
+    }
+
+    fn by_library(self, lent: &mut Arguments) -> u32 {
+        let (key, address, side) = (&lent.key, lent.address, lent.side);
+        let (s, n, i) = (lent.s, lent.n, lent.number);
+        let (plain, sector, out) = (&lent.plain, &lent.sector, &mut lent.out);
+        let (local, tag, remote) = (&mut lent.local, &mut lent.tag, &mut lent.remote);
+        let (list, counts) = (&mut lent.list, &mut lent.counts);
+        match self {
+            Call::Seal => linked::seal(key, address, plain, local, remote, tag),
+            Call::Judge => linked::judge(key, address, local, tag, remote, out),
+            Call::Open => linked::open(key, address, side, sector, tag, out),
+            Call::Rebuild => linked::rebuild(key, address, side, sector, tag, out),
+            Call::Combine => linked::combine(local, remote, out),
+            Call::Blank => linked::blank(key, s, n, i, local, tag, remote),
+            Call::First => linked::first_stage(key, s, n, i, plain, local, tag, remote),
+            Call::Second => linked::second_stage(key, s, n, i, plain, local, tag, remote),
+            Call::Third => linked::third_stage(key, s, n, i, plain, local, tag, remote),
+            Call::Read => linked::read(key, s, n, i, local, tag, remote, out),
+            Call::Mend => linked::mend(key, s, n, i, local, tag, remote),
+            Call::Survey => linked::survey(key, s, n, local, tag, remote, list, counts),
+        }
+    }
+
+    fn by_reference(self, lent: &mut Arguments) -> u32 {
+        let (key, address) = (&lent.key, lent.address);
+        // A side of more than a byte is as unknown as 255.
+        let side = u8::try_from(lent.side).unwrap_or(255);
+        let (s, n, i) = (lent.s, lent.n, lent.number);
+        let (plain, sector, out) = (&lent.plain, &lent.sector, &mut lent.out);
+        let (local, tag, remote) = (&mut lent.local, &mut lent.tag, &mut lent.remote);
+        u32::from(match self {
+            Call::Seal => answer_number(&seal::seal(key, address, plain, local, remote, tag)),
+            Call::Judge => answer_number(&seal::judge(key, address, local, tag, remote, out)),
+            Call::Open => answer_number(&seal::open(key, address, side, sector, tag, out)),
+            Call::Rebuild => answer_number(&seal::rebuild(key, address, side, sector, tag, out)),
+            Call::Combine => answer_number(&seal::combine(local, remote, out)),
+            Call::Blank => answer_number(&volume::blank(key, s, n, local, tag, remote, i)),
+            Call::First => answer_number(&volume::first_stage(
+                key, s, n, local, tag, remote, i, plain,
+            )),
+            Call::Second => answer_number(&volume::second_stage(
+                key, s, n, local, tag, remote, i, plain,
+            )),
+            Call::Third => answer_number(&volume::third_stage(
+                key, s, n, local, tag, remote, i, plain,
+            )),
+            Call::Read => answer_number(&volume::read(key, s, n, local, tag, remote, i, out)),
+            Call::Mend => answer_number(&volume::mend(key, s, n, local, tag, remote, i)),
+            Call::Survey => survey_by_reference(lent),
+        })
+    }
+}
+
+/// Writes what the survey counts where the library writes it.
+fn survey_by_reference(lent: &mut Arguments) -> u8 {
+    let (local, tag, remote) = (&lent.local, &lent.tag, &lent.remote);
+    match volume::survey(
+        &lent.key,
+        lent.s,
+        lent.n,
+        local,
+        tag,
+        remote,
+        &mut lent.list,
+    ) {
+        Ok(found) => {
+            let judged = [found.whole, found.doubtful, found.clashing, found.lost];
+            for (count, number) in lent.counts.iter_mut().zip(judged) {
+                *count = number as u64;
+            }
+            lent.counts[4] = found.health as u64;
+            0
+        }
+        Err(refusal) => refusal.number(),
+    }
+}
+
+/// How often each answer came from each call.
+#[derive(Default)]
+pub struct Tally(BTreeMap<(Call, u32), usize>);
+
+impl Tally {
+    /// Makes a call by both and counts it.
+    pub fn make(&mut self, call: Call, given: &Arguments) -> (u32, Arguments) {
+        let (number, left) = call.by_both(given);
+        *self.0.entry((call, number)).or_default() += 1;
+        (number, left)
+    }
+
+    pub fn print(&self) {
+        for ((call, number), times) in &self.0 {
+            println!("{call:?} answers {number:02x}: {times}");
+        }
+        println!("{} calls agree", self.0.values().sum::<usize>());
+    }
+
+    /// A call's answers must be these and no others.
+    pub fn insist_on(&self, call: Call, answers: &[u32]) {
+        let seen = self.0.keys().filter(|(of, _)| *of == call);
+        let seen: BTreeSet<u32> = seen.map(|(_, number)| *number).collect();
+        let due: BTreeSet<u32> = answers.iter().copied().collect();
+        assert_eq!(seen, due, "answers of {call:?}");
+    }
+}
+
+/// How many rounds: the default, or what the variable MIRROR_ROUNDS says.
+pub fn rounds(default: usize) -> usize {
+    match std::env::var("MIRROR_ROUNDS") {
+        Ok(text) => text.parse().expect("MIRROR_ROUNDS is a number"),
+        Err(_) => default,
+    }
+}

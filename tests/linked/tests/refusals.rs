@@ -1,0 +1,324 @@
+//! The refusals of all twelve calls through the compiled library, each compared
+//! with the independent implementation. To the right arguments of a call comes
+//! every fault alone and every pair of faults, which tests the order too.
+
+mod common;
+
+use common::{rounds, Arguments, Call, Tally, FILL};
+use reference::answer::Place;
+use reference::collide::blind_pair;
+use reference::field::{to_block, to_blocks, to_bytes};
+use reference::rng::Rng;
+use reference::seal::{sealed, Sealed};
+use reference::volume::part;
+
+/// What can be wrong with a call. The first three change several arguments
+/// together, so that they still agree with each other.
+#[derive(Clone, Copy, Debug, PartialEq, Eq)]
+enum Parameter {
+    /// What the sector holds.
+    Contents,
+    /// The sector size, with every length that follows from it.
+    SizeOfAll,
+    /// The number of sectors, with every length that follows from it.
+    CountOfAll,
+    Key,
+    Side,
+    Size,
+    Count,
+    Number,
+    Plain,
+    Sector,
+    Local,
+    Tag,
+    Remote,
+    Out,
+    List,
+}
+
+use Parameter::*;
+
+/// A parameter and what it gets: a number, or the length of a lent part.
+type Fault = (Parameter, usize);
+
+/// What can be wrong with every call on a volume.
+const OF_VOLUME: &[Parameter] = &[
+    Contents, SizeOfAll, CountOfAll, Key, Size, Count, Local, Tag, Remote,
+];
+
+/// Sizes about the bounds, and lengths for lent parts.
+const SIZES: [usize; 11] = [0, 1, 15, 16, 17, 31, 4080, 4095, 4096, 4097, 4112];
+
+/// The sector sizes and numbers of sectors of the right arguments.
+const SHAPES: [(usize, usize); 7] = [
+    (32, 3),
+    (16, 1),
+    (16, 4),
+    (48, 2),
+    (64, 16),
+    (512, 1),
+    (4096, 2),
+];
+
+const CALLS: [(Call, &[u32]); 12] = [
+    (Call::Seal, &[0, 1, 2, 3]),
+    (Call::Judge, &[0, 0x81, 0x82, 0x83, 1, 2, 3, 6, 7]),
+    (Call::Open, &[0, 1, 2, 3, 4, 5]),
+    (Call::Rebuild, &[0, 1, 2, 3, 4, 5]),
+    (Call::Combine, &[0, 2, 3]),
+    (Call::Blank, &[0, 1, 2, 8, 9]),
+    (Call::First, &[0, 1, 2, 8, 9, 3, 10]),
+    (Call::Second, &[0, 1, 2, 8, 9, 3, 10]),
+    (Call::Third, &[0, 1, 2, 8, 9, 3, 10]),
+    (Call::Read, &[0, 0x81, 0x82, 0x83, 1, 2, 8, 9, 3, 6, 7]),
+    (Call::Mend, &[0, 0x81, 0x82, 0x83, 1, 2, 8, 9, 6, 7]),
+    (Call::Survey, &[0, 1, 2, 8, 11]),
+];
+
+/// What a call takes that can be wrong. The order is that of the changes.
+fn parameters(call: Call) -> Vec<Parameter> {
+    let of_volume = |more: &[Parameter]| [OF_VOLUME, more].concat();
+    match call {
+        Call::Seal => vec![SizeOfAll, Key, Plain, Local, Remote, Tag],
+        Call::Judge => vec![Contents, SizeOfAll, Key, Local, Tag, Remote, Out],
+        Call::Open | Call::Rebuild => vec![Contents, SizeOfAll, Key, Side, Sector, Tag, Out],
+        Call::Combine => vec![SizeOfAll, Local, Remote, Out],
+        Call::Blank | Call::Mend => of_volume(&[Number]),
+        Call::First | Call::Second | Call::Third => of_volume(&[Number, Plain]),
+        Call::Read => of_volume(&[Number, Out]),
+        Call::Survey => of_volume(&[List]),
+    }
+}
+
+/// The values at and about each bound, and some that a sum, a product or a
+/// narrower number would take for the right one.
+fn values(parameter: Parameter, right: &Arguments) -> Vec<usize> {
+    let (s, n) = (right.s, right.n);
+    let wide = |number| vec![number + (1 << 32), number + (1 << 60), usize::MAX];
+    match parameter {
+        Contents => (0..if s > 16 { 5 } else { 4 }).collect(),
+        SizeOfAll => SIZES.to_vec(),
+        CountOfAll => vec![0, 1, 2, n - 1, n + 1],
+        Key => vec![0, 1, 16, 31, 33, 48, 64],
+        Side => vec![0, 1, 2, 255, 256, 257, u32::MAX as usize],
+        Size => [sizes_about(s), wide(s), vec![1 << 60, 1 << 63]].concat(),
+        Count => {
+            let bounds = vec![0, 1, 2, n - 1, n + 1, 65_535, 65_536, 65_537];
+            [bounds, wide(n), vec![1 << 60]].concat()
+        }
+        Number => [vec![0, n - 1, n, n + 1, 65_536], wide(right.number)].concat(),
+        Plain | Sector | Out => sizes_about(s),
+        Local | Remote if n == 1 => sizes_about(s),
+        Local | Remote => [vec![0, 16 * n], about(n * s, s)].concat(),
+        Tag => [vec![0, 15, 17, 32, n * s], about(16 * n, 16)].concat(),
+        List => vec![0, n - 1, n + 1, 2 * n],
+    }
+}
+
+/// A byte, a block and a sector fewer or more.
+fn about(length: usize, sector: usize) -> Vec<usize> {
+    [1, 16, sector]
+        .into_iter()
+        .flat_map(|step| [length - step, length + step])
+        .collect()
+}
+
+fn sizes_about(s: usize) -> Vec<usize> {
+    [SIZES.to_vec(), about(s, s)].concat()
+}
+
+fn faults(call: Call, right: &Arguments) -> Vec<Fault> {
+    let mut faults = vec![];
+    for parameter in parameters(call) {
+        for value in values(parameter, right) {
+            if !faults.contains(&(parameter, value)) {
+                faults.push((parameter, value));
+            }
+        }
+    }
+    faults
+}
+
+fn apply(arguments: &mut Arguments, (parameter, value): Fault) {
+    match parameter {
+        Contents => spoil(arguments, value),
+        SizeOfAll => {
+            arguments.s = value;
+            follow(arguments);
+        }
+        CountOfAll => {
+            arguments.n = value;
+            follow(arguments);
+        }
+        Key => arguments.key.resize(value, FILL),
+        Side => arguments.side = value as u32,
+        Size => arguments.s = value,
+        Count => arguments.n = value,
+        Number => arguments.number = value,
+        Plain => arguments.plain.resize(value, FILL),
+        Sector => arguments.sector.resize(value, FILL),
+        Local => arguments.local.resize(value, FILL),
+        Tag => arguments.tag.resize(value, FILL),
+        Remote => arguments.remote.resize(value, FILL),
+        Out => arguments.out.resize(value, FILL),
+        List => arguments.list.resize(value, u32::from(FILL)),
+    }
+}
+
+/// Gives every lent part the length that follows from s and n.
+fn follow(arguments: &mut Arguments) {
+    let (s, n) = (arguments.s, arguments.n);
+    arguments.plain.resize(s, FILL);
+    arguments.sector.resize(s, FILL);
+    arguments.out.resize(s, FILL);
+    arguments.local.resize(n * s, FILL);
+    arguments.tag.resize(n * 16, FILL);
+    arguments.remote.resize(n * s, FILL);
+    arguments.list.resize(n, u32::from(FILL));
+}
+
+/// Damages one place (0 to 2) of the sector, or all three (3), or puts there
+/// the sides of two plaintexts of equal tag (4), which takes two blocks.
+fn spoil(arguments: &mut Arguments, how: usize) {
+    let mut held = held(arguments);
+    if how == 4 {
+        let h = to_block(&arguments.key[..16]);
+        let (one, other) = blind_pair(h, &to_blocks(&arguments.plain), 1);
+        held = sealed(&arguments.key, arguments.address, &to_bytes(&one));
+        held.remote = sealed(&arguments.key, arguments.address, &to_bytes(&other)).remote;
+    }
+    for (index, place) in Place::ALL.into_iter().enumerate() {
+        if how == index || how == 3 {
+            held.place_mut(place)[5] ^= 0x40;
+        }
+    }
+    hold(arguments, &held);
+}
+
+/// The sector's three places.
+fn held(arguments: &Arguments) -> Sealed {
+    let sector = part(arguments.number, arguments.s);
+    Sealed {
+        local: arguments.local[sector.clone()].to_vec(),
+        tag: arguments.tag[part(arguments.number, 16)].to_vec(),
+        remote: arguments.remote[sector].to_vec(),
+    }
+}
+
+/// Puts a triple into the sector's places.
+fn hold(arguments: &mut Arguments, held: &Sealed) {
+    let sector = part(arguments.number, arguments.s);
+    arguments.local[sector.clone()].copy_from_slice(&held.local);
+    arguments.tag[part(arguments.number, 16)].copy_from_slice(&held.tag);
+    arguments.remote[sector].copy_from_slice(&held.remote);
+    arguments.sector = match arguments.side {
+        0 => held.local.clone(),
+        _ => held.remote.clone(),
+    };
+}
+
+/// Arguments that the call takes.
+fn right(rng: &mut Rng, call: Call, s: usize, n: usize) -> Arguments {
+    let n = if call.is_on_volume() { n } else { 1 };
+    let number = rng.below(n);
+    let random = rng.next_u64();
+    let mut arguments = Arguments {
+        key: rng.bytes(32),
+        address: if call.is_on_volume() {
+            number as u64
+        } else {
+            random
+        },
+        side: (random & 1) as u32,
+        s,
+        n,
+        number,
+        plain: rng.bytes(s),
+        local: rng.bytes(n * s),
+        tag: rng.bytes(n * 16),
+        remote: rng.bytes(n * s),
+        out: vec![FILL; s],
+        list: vec![u32::from(FILL); n],
+        ..Arguments::none()
+    };
+    let old = sealed(&arguments.key, arguments.address, &rng.bytes(s));
+    if let Some(triple) = found_by(call, &arguments, old) {
+        hold(&mut arguments, &triple);
+    }
+    arguments
+}
+
+/// What the call finds in the sector, if not random bytes. What it has to write
+/// is not there yet.
+fn found_by(call: Call, arguments: &Arguments, old: Sealed) -> Option<Sealed> {
+    let new = sealed(&arguments.key, arguments.address, &arguments.plain);
+    match call {
+        Call::Seal | Call::Blank => None,
+        Call::First => Some(old),
+        Call::Second => Some(Sealed {
+            local: new.local,
+            ..old
+        }),
+        Call::Third => Some(Sealed {
+            remote: old.remote,
+            ..new
+        }),
+        _ => Some(new),
+    }
+}
+
+/// A call with right arguments, with every fault and with every two.
+fn try_faults(tally: &mut Tally, call: Call, right: &Arguments) {
+    assert_eq!(tally.make(call, right).0, 0, "{call:?}");
+    let faults = faults(call, right);
+    for (index, &first) in faults.iter().enumerate() {
+        let mut with_one = right.clone();
+        apply(&mut with_one, first);
+        tally.make(call, &with_one);
+        for &second in faults[index..].iter().filter(|fault| fault.0 != first.0) {
+            let mut with_two = with_one.clone();
+            apply(&mut with_two, second);
+            tally.make(call, &with_two);
+        }
+    }
+}
+
+#[test]
+fn refusals_through_the_library() {
+    let mut tally = Tally::default();
+    for round in 0..rounds(SHAPES.len()) {
+        let mut rng = Rng::new(200 + round as u64);
+        let (s, n) = SHAPES[round % SHAPES.len()];
+        for (call, _) in CALLS {
+            let right = right(&mut rng, call, s, n);
+            try_faults(&mut tally, call, &right);
+        }
+    }
+    tally.print();
+    for (call, answers) in CALLS {
+        tally.insist_on(call, answers);
+    }
+}
+
+/// One fault at a time, since three images of a megabyte are copied for each
+/// call, and none that makes every sector larger.
+#[test]
+fn faults_of_the_largest_volume() {
+    let mut tally = Tally::default();
+    let mut rng = Rng::new(300);
+    for (call, _) in CALLS {
+        if !call.is_on_volume() {
+            continue;
+        }
+        let right = right(&mut rng, call, 16, 65_536);
+        assert_eq!(tally.make(call, &right).0, 0, "{call:?}");
+        for fault in faults(call, &right) {
+            if fault.0 != SizeOfAll {
+                let mut with_one = right.clone();
+                apply(&mut with_one, fault);
+                tally.make(call, &with_one);
+            }
+        }
+    }
+    tally.print();
+}
