@@ -1,4 +1,4 @@
--- A buffer fed by stretches, each up to the next line feed: the laws of the loop in `feed_all`. Assumes nothing.
+-- A buffer fed by stretches, each up to the next line feed: the laws of the loop in `feed_buffer`. Assumes nothing.
 use mathlib.Core.Path.{_≡_, refl, sym, ap, ap₂, _∙_}
 use mathlib.Core.Bool.{Bool, true, false}
 use mathlib.Core.List.{List, [], _∷_, _++_, append-assoc, append-nil}

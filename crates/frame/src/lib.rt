@@ -249,9 +249,8 @@ fn print_held(line: &[u8], used: usize, out: &mut [u8], printed: usize) -> usize
     printed + print_line(&line[..used], &mut out[printed..])
 }
 
-// Feeds all of a buffer. The first `used` bytes of `line` are those of a line that has not ended. What is to be printed comes to the front of
-// `out`. No more than 16,499 bytes of a line are held, which are enough to refuse it.
-fn feed_all(buffer: &[u8], line: &mut [u8], used: usize, out: &mut [u8]) -> Fed
+// Feeds a whole buffer. No more than 16,499 bytes of a line are held, which are enough to refuse it.
+fn feed_buffer(buffer: &[u8], line: &mut [u8], used: usize, out: &mut [u8]) -> Fed
     requires { ⌜ (length (now line) ≡ 16499) × (used ≤ 16499) × (used + 3 * length (now buffer) ≤ length (now out)) ⌝ }
     ensures { λ r. ⌜ (take (r .used) (now (line .exit)) ≡ fed (take used (now (line .entry))) (now (buffer .entry)) .rest) × Prints (fed (take used (now (line .entry))) (now (buffer .entry)) .printed) (now (out .entry)) (now (out .exit)) (r .printed) (length (now (out .entry))) × (r .used ≤ 16499) ⌝ }
 {
@@ -278,11 +277,11 @@ fn feed_front(buffer: &[u8], n: usize, line: &mut [u8], used: usize, out: &mut [
     requires { ⌜ (n ≤ length (now buffer)) × (length (now line) ≡ 16499) × (used ≤ 16499) × (used + 3 * n ≤ length (now out)) ⌝ }
     ensures { λ r. ⌜ (take (r .used) (now (line .exit)) ≡ fed (take used (now (line .entry))) (take n (now (buffer .entry))) .rest) × Prints (fed (take used (now (line .entry))) (take n (now (buffer .entry))) .printed) (now (out .entry)) (now (out .exit)) (r .printed) (length (now (out .entry))) × (r .used ≤ 16499) ⌝ }
 {
-    feed_all(&buffer[..n], line, used, out)
+    feed_buffer(&buffer[..n], line, used, out)
 }
 
-// Feeds the first n bytes of a buffer, all of it where n is more. The first `used` bytes of `line`, or all, are those of a line that has not
-// ended. What is to be printed comes to the front of `out`, which has room for three bytes for each of the buffer and one for each held.
+// Feeds the first n bytes of a buffer, or all where n is more. The first `used` bytes of `line`, or all, are those of a line that has not
+// ended. What is to be printed comes to the front of `out`: at most three bytes for each byte fed, and one for each held before.
 pub fn feed(
     buffer: &[u8; 65536],
     n: usize,

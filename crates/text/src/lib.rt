@@ -48,8 +48,7 @@ fn decode_digits(line: &[u8], bytes: &mut [u8])
     }
 }
 
-// The bytes of a line of digits. False, and nothing is written, where there is no room for exactly these or another byte is among the
-// digits.
+// Decodes a line of digits. False, and nothing is written, where `bytes` is not half as long as the line or a byte is no digit.
 pub fn decode(line: &[u8], bytes: &mut [u8]) -> bool
     ensures { λ r. ⌜ (r ≡ (eqb (length (now (line .entry))) (2 * length (now (bytes .entry))) && allDigits (now (line .entry)))) × (now (bytes .exit) ≡ cond r (D.decode (now (line .entry))) (now (bytes .entry))) ⌝ }
 {

@@ -5,11 +5,11 @@ use borrow.Author.Needs.{needs}
 use Rattle.frame.proofs.feed_front.Statement.{statement}
 use Rattle.frame.proofs.feed_front.Tie as tie
 
-slice-aggregate-feed-all : tie.Need-slice-aggregate-feed-all
-slice-aggregate-feed-all c = simp length-take (omega arith)
+slice-aggregate-feed-buffer : tie.Need-slice-aggregate-feed-buffer
+slice-aggregate-feed-buffer c = simp length-take (omega arith)
 
-feed-all-requires : tie.Need-feed-all-requires
-feed-all-requires c κs = simp length-take (omega arith)
+feed-buffer-requires : tie.Need-feed-buffer-requires
+feed-buffer-requires c κs = simp length-take (omega arith)
 
 same-length : tie.Need-same-length
 same-length c = search needs
@@ -23,4 +23,4 @@ returns c = search needs
 pub feed-front-spec : {M : Type 1} → statement M
 feed-front-spec =
     tie.close
-    (tie.spec slice-aggregate-feed-all feed-all-requires same-length same-length-2 returns)
+    (tie.spec slice-aggregate-feed-buffer feed-buffer-requires same-length same-length-2 returns)

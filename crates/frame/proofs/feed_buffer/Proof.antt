@@ -1,4 +1,4 @@
--- `feed_all` meets its contract. The loop's invariant is `SoFar`: what is printed, and what feeding the rest gives, is what feeding the whole
+-- `feed_buffer` meets its contract. The loop's invariant is `SoFar`: what is printed, and what feeding the rest gives, is what feeding the whole
 -- buffer gives. The measure is what is left of the buffer. Assumes nothing.
 use mathlib.Core.Path.{sym, _∙_}
 use Prim.Native.Nat.{_-_, _≤_}
@@ -6,8 +6,8 @@ use native.Mathlib.Omega.{arith}
 use lib.ListN.{length, length-take, length-drop}
 use borrow.Author.Needs.{needs}
 use Rattle.frame.proofs.Stretches.{SoFar, so-far-none, so-far-next, fed-all}
-use Rattle.frame.proofs.feed_all.Statement.{statement}
-use Rattle.frame.proofs.feed_all.Tie as tie
+use Rattle.frame.proofs.feed_buffer.Statement.{statement}
+use Rattle.frame.proofs.feed_buffer.Tie as tie
 
 abbrev Inv-loop : tie.InvT-loop
 Inv-loop buffer line₀ used out₀ at₀ size₀ printed₀ end₀ line out at size printed end =
@@ -100,8 +100,8 @@ returns c =
     let r = fed-all v (o .result) _ (o .ensures .0) e (omega arith) in
     (r .0, (r .1, r .2, omega arith), o .ensures .1)
 
-pub feed-all-spec : {M : Type 1} → statement M
-feed-all-spec =
+pub feed-buffer-spec : {M : Type 1} → statement M
+feed-buffer-spec =
     tie.close
     (tie.spec
     Inv-loop
