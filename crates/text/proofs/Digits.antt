@@ -1,8 +1,8 @@
 -- Laws of hexadecimal digits: the value of one, the test of a line, and the bytes of pairs of digits. Assumes nothing.
 use mathlib.Core.Path.{_≡_, refl, sym, ap, ap₂, _∙_}
-use mathlib.Core.Bool.{Bool, true, false, _&&_, cond}
+use mathlib.Core.Bool.{Bool, true, false, _&&_, _||_, cond}
 use mathlib.Core.List.{List, [], _∷_, _++_}
-use Prim.Native.Nat.{ℕ, zero, suc, _+_, _*_, _-_, _/_, _≤_, _<_}
+use Prim.Native.Nat.{ℕ, zero, suc, _+_, _*_, _-_, _/_, _%_, _≤_, _<_}
 use native.Mathlib.Decide.{decLt}
 use native.Mathlib.Numerals.{add-one}
 use native.Mathlib.Omega.{arith}
@@ -10,7 +10,7 @@ use lib.Dec.{eqb, leb}
 use lib.ListN.{length, take, drop, getD, set, length-set, drop-of-length-le}
 use lib.Seq.{drop-cons}
 use borrow.Author.Tests.{leb-true, le-leb, lt-leb, eq-eqb, ne-eqb}
-use Rattle.block.proofs.Lists.{clash, and-left, and-right, and-both, fill-turn, fill-end}
+use Rattle.block.proofs.Lists.{false-true, clash, and-left, and-right, and-both, fill-turn, fill-end}
 use Rattle.text.specs.Digits.{between, isDigit, digitValue, allDigits, decode}
 
 -- ---- one digit
@@ -66,6 +66,30 @@ digit-small c e = go (decLt 102 c) (leb c 57) (leb c 70) refl refl
     go (no h) false true f g = let k : c ≤ 70 = leb-true c 70 g in omega arith
     go (no h) false false f g = omega arith
 
+bounds : (a b c : ℕ) → between a b c ≡ true → (a ≤ c) × (c ≤ b)
+bounds a b c e = (leb-true a c (and-left (leb a c) (leb c b) e), leb-true c b (and-right (leb a c) (leb c b) e))
+
+-- the value of a byte that is a digit, without a branch
+pub known : (c : ℕ) → isDigit c ≡ true → c % 16 + 9 * (c / 64) ≡ digitValue c
+unfolding isDigit
+known c e = go (between 48 57 c) (between 65 70 c) (between 97 102 c) refl refl refl e ∙ ap (λ b. cond b (digitValue c) 16) e
+  where
+    go : (p q r : Bool) → between 48 57 c ≡ p → between 65 70 c ≡ q → between 97 102 c ≡ r → (p || (q || r)) ≡ true
+        → c % 16 + 9 * (c / 64) ≡ valueOf c
+    go true q r f g h k =
+        let w = bounds 48 57 c f in
+        let v : c % 16 + 9 * (c / 64) ≡ c - 48 = omega arith in
+        v ∙ decimal c (w .0) (w .1)
+    go false true r f g h k =
+        let w = bounds 65 70 c g in
+        let v : c % 16 + 9 * (c / 64) ≡ c - 55 = omega arith in
+        v ∙ upper c (w .0) (w .1)
+    go false false true f g h k =
+        let w = bounds 97 102 c h in
+        let v : c % 16 + 9 * (c / 64) ≡ c - 87 = omega arith in
+        v ∙ lower c (w .0) (w .1)
+    go false false false f g h k = false-true k
+
 -- what the code's test of the value says
 digit-yes : (c v : ℕ) → v ≡ valueOf c → v ≤ 15 → isDigit c ≡ true
 digit-yes c v e h = go (isDigit c) refl e
@@ -102,17 +126,11 @@ module _ (l : List ℕ) (i : ℕ) (I : allDigits (drop i l) ≡ allDigits l) whe
   unfolding allDigits
   digits-end h = sym (ap allDigits (drop-of-length-le l h)) ∙ I
 
-digit-at : (l : List ℕ) (i : ℕ) → i < length l → allDigits l ≡ true → isDigit (getD l i 0) ≡ true
+pub digit-at : (l : List ℕ) (i : ℕ) → i < length l → allDigits l ≡ true → isDigit (getD l i 0) ≡ true
 unfolding allDigits
 digit-at [] i h e = absurd (omega arith)
 digit-at (c ∷ cs) zero h e = and-left (isDigit c) (allDigits cs) e
 digit-at (c ∷ cs) (suc i) h e = digit-at cs i (omega arith) (and-right (isDigit c) (allDigits cs) e)
-
-value-at : (l : List ℕ) (i v : ℕ) → i < length l → allDigits l ≡ true → v ≡ valueOf (getD l i 0) → (v ≡ digitValue (getD l i 0)) × (v ≤ 15)
-value-at l i v h e f =
-    let d = digit-at l i h e in
-    let k : v ≡ digitValue (getD l i 0) = f ∙ ap (λ b. cond b (digitValue (getD l i 0)) 16) d in
-    (k, omega (arith, digit-small (getD l i 0) d))
 
 -- the values of a pair of bytes of such a line
 pub record Pair (l : List ℕ) (i x y : ℕ) : Type 0 where
@@ -122,11 +140,11 @@ pub record Pair (l : List ℕ) (i x y : ℕ) : Type 0 where
   pub low-small : y ≤ 15
 
 pub pair-at : (l : List ℕ) (i x y : ℕ) → 2 * i + 1 < length l → allDigits l ≡ true
-    → x ≡ valueOf (getD l (2 * i) 0) → y ≡ valueOf (getD l (2 * i + 1) 0) → Pair l i x y
+    → x ≡ digitValue (getD l (2 * i) 0) → y ≡ digitValue (getD l (2 * i + 1) 0) → Pair l i x y
 pair-at l i x y h e ex ey =
-    let p = value-at l (2 * i) x (omega arith) e ex in
-    let q = value-at l (2 * i + 1) y h e ey in
-    record { high = p .0; low = q .0; high-small = p .1; low-small = q .1 }
+    let p = digit-small (getD l (2 * i) 0) (digit-at l (2 * i) (omega arith) e) in
+    let q = digit-small (getD l (2 * i + 1) 0) (digit-at l (2 * i + 1) h e) in
+    record { high = ex; low = ey; high-small = omega arith; low-small = omega arith }
 
 -- ---- the bytes of digits
 

@@ -1,8 +1,8 @@
 -- `decode_digits` meets its contract. The loop's invariant is `Decoding`. Assumes nothing.
-use Prim.Native.Nat.{_-_}
+use Prim.Native.Nat.{_+_, _*_, _-_}
 use native.Mathlib.Omega.{arith}
 use lib.ListN.{length, length-set}
-use Rattle.text.proofs.Digits.{pair-at, Decoding, decoding-start, decoding-turn, decoding-end}
+use Rattle.text.proofs.Digits.{digit-at, pair-at, Decoding, decoding-start, decoding-turn, decoding-end}
 use borrow.Author.Needs.{needs}
 use Rattle.text.proofs.decode_digits.Statement.{statement}
 use Rattle.text.proofs.decode_digits.Tie as tie
@@ -16,34 +16,34 @@ abbrev μ-loop : tie.MeasureT-loop
 loop-holds : tie.Need-loop-holds Inv-loop μ-loop
 loop-holds c = decoding-start _ _
 
-mul-digit-value : tie.Need-mul-digit-value Inv-loop μ-loop
-mul-digit-value c = search needs
+mul-known-value : tie.Need-mul-known-value Inv-loop μ-loop
+mul-known-value c = search needs
 
-shared-slice-read-digit-value : tie.Need-shared-slice-read-digit-value Inv-loop μ-loop
-shared-slice-read-digit-value c = search needs
+shared-slice-read-known-value : tie.Need-shared-slice-read-known-value Inv-loop μ-loop
+shared-slice-read-known-value c = search needs
 
-digit-value-requires : tie.Need-digit-value-requires Inv-loop μ-loop
-digit-value-requires c κs = search needs
+known-value-requires : tie.Need-known-value-requires Inv-loop μ-loop
+known-value-requires c κs = digit-at (c .before .before .before .before .before .args .line .now) (2 * c .before .before .loop .i) (omega arith) (c .before .before .before .before .before .pre .1)
 
-mul-digit-value-2 : tie.Need-mul-digit-value-2 Inv-loop μ-loop
-mul-digit-value-2 c = search needs
+mul-known-value-2 : tie.Need-mul-known-value-2 Inv-loop μ-loop
+mul-known-value-2 c = search needs
 
-add-digit-value : tie.Need-add-digit-value Inv-loop μ-loop
-add-digit-value c = search needs
+add-known-value : tie.Need-add-known-value Inv-loop μ-loop
+add-known-value c = search needs
 
-shared-slice-read-digit-value-2 : tie.Need-shared-slice-read-digit-value-2 Inv-loop μ-loop
-shared-slice-read-digit-value-2 c = search needs
+shared-slice-read-known-value-2 : tie.Need-shared-slice-read-known-value-2 Inv-loop μ-loop
+shared-slice-read-known-value-2 c = search needs
 
-digit-value-requires-2 : tie.Need-digit-value-requires-2 Inv-loop μ-loop
-digit-value-requires-2 c κs = search needs
+known-value-requires-2 : tie.Need-known-value-requires-2 Inv-loop μ-loop
+known-value-requires-2 c κs = digit-at (c .before .before .before .before .before .before .before .args .line .now) (2 * c .before .before .before .before .loop .i + 1) (omega arith) (c .before .before .before .before .before .before .before .pre .1)
 
 mul-bytes : tie.Need-mul-bytes Inv-loop μ-loop
 mul-bytes c =
     let a = c .before .before .before .before .before .before .before .before .args in
     let l = c .before .before .before .before .before .loop in
     let h = c .before .before .before .before .before .before .before .before .pre in
-    let x = c .before .before .digit-value in
-    let y = c .digit-value2 in
+    let x = c .before .before .known-value in
+    let y = c .known-value2 in
     let p = pair-at (a .line .now) (l .i) (x .result) (y .result) (omega arith) (h .1) (x .ensures) (y .ensures) in
     omega arith
 
@@ -52,8 +52,8 @@ add-bytes c =
     let a = c .before .before .before .before .before .before .before .before .args in
     let l = c .before .before .before .before .before .loop in
     let h = c .before .before .before .before .before .before .before .before .pre in
-    let x = c .before .before .digit-value in
-    let y = c .digit-value2 in
+    let x = c .before .before .known-value in
+    let y = c .known-value2 in
     let p = pair-at (a .line .now) (l .i) (x .result) (y .result) (omega arith) (h .1) (x .ensures) (y .ensures) in
     omega arith
 
@@ -71,8 +71,8 @@ loop-again c =
     let a = c .before .before .before .before .before .before .before .before .args in
     let l = c .before .before .before .before .before .loop in
     let h = c .before .before .before .before .before .before .before .before .pre in
-    let x = c .before .before .digit-value in
-    let y = c .digit-value2 in
+    let x = c .before .before .known-value in
+    let y = c .known-value2 in
     let p = pair-at (a .line .now) (l .i) (x .result) (y .result) (omega arith) (h .1) (x .ensures) (y .ensures) in
     decoding-turn (a .line .now) (a .bytes .now) (l .bytes) (l .i) (h .0) (l .inv) (x .result) (y .result) (omega arith) p
 
@@ -92,13 +92,13 @@ decode-digits-spec =
     Inv-loop
     μ-loop
     loop-holds
-    mul-digit-value
-    shared-slice-read-digit-value
-    digit-value-requires
-    mul-digit-value-2
-    add-digit-value
-    shared-slice-read-digit-value-2
-    digit-value-requires-2
+    mul-known-value
+    shared-slice-read-known-value
+    known-value-requires
+    mul-known-value-2
+    add-known-value
+    shared-slice-read-known-value-2
+    known-value-requires-2
     mul-bytes
     add-bytes
     slice-write-bytes
