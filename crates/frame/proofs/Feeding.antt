@@ -11,7 +11,8 @@ use lib.ListN.{length, take, length-take}
 use lib.Seq.{take-all, length-take-le}
 use borrow.Author.Tests.{le-leb, eq-eqb, ne-eqb}
 use Rattle.verdict.specs.Answers.{settle}
-use Rattle.frame.specs.Frame.{frameAnswer, lineAnswer, shown, printLine, decode}
+use Rattle.text.specs.Digits.{decode}
+use Rattle.frame.specs.Frame.{frameAnswer, lineAnswer, shown, printLine}
 use Rattle.frame.specs.Lines.{linesFrom, printLines, printInput, held, fed, finished, fedAll, concat, FeedsWhole}
 
 -- ---- a long line is refused whatever its bytes are

@@ -12,7 +12,8 @@ use Rattle.block.specs.Bytes.{fromBytes}
 use Rattle.block.proofs.Lists.{take-zeros}
 use Rattle.verdict.specs.Judging.{key, triple}
 use Rattle.sector.specs.Calls.{judgeCall, combineCall}
-use Rattle.frame.specs.Frame.{between, kind, beside, field, judged, combined, called, printed, shown}
+use Rattle.text.specs.Digits.{between}
+use Rattle.frame.specs.Frame.{kind, beside, field, judged, combined, called, printed, shown}
 use Rattle.frame.specs.Inner.{Prints, Sectors}
 
 -- ---- the calls

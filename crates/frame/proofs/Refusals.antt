@@ -15,7 +15,8 @@ use Rattle.mode.specs.Scheme.{isSize}
 use Rattle.verdict.specs.Answers.{Rule, rule, firstOf}
 use Rattle.verdict.proofs.Rules.{first-none, first-some, none-left, none-right}
 use Rattle.sector.proofs.Public.{settle-some, settle-none}
-use Rattle.frame.specs.Frame.{between, kind, beside, together, half, called, kindRules, sectorRules, lengthRules, allDigits, decode, frameAnswer, lineAnswer, printed, shown, printLine}
+use Rattle.text.specs.Digits.{between, allDigits, decode}
+use Rattle.frame.specs.Frame.{kind, beside, together, half, called, kindRules, sectorRules, lengthRules, frameAnswer, lineAnswer, printed, shown, printLine}
 use Rattle.frame.specs.Inner.{refusalOf, Sectors}
 
 -- ---- a frame that passes

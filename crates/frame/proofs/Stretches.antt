@@ -1,4 +1,4 @@
--- A buffer fed by stretches, each up to the next line feed: the laws of the loops in `line_end` and `feed`. Assumes nothing.
+-- A buffer fed by stretches, each up to the next line feed: the laws of the loop in `feed_buffer`. Assumes nothing.
 use mathlib.Core.Path.{_≡_, refl, sym, ap, ap₂, _∙_}
 use mathlib.Core.Bool.{Bool, true, false}
 use mathlib.Core.List.{List, [], _∷_, _++_, append-assoc, append-nil}
@@ -9,41 +9,15 @@ use native.Mathlib.Omega.{arith}
 use lib.Dec.{eqb}
 use lib.ListN.{length, take, drop, getD, length-append, length-take, length-drop, take-append-drop, drop-of-length-le}
 use lib.Seq.{take-all, take-at, drop-at, take-append-add, append-snoc, length-take-le, drop-cons, drop-drop, getD-drop}
-use borrow.Author.Tests.{eq-eqb, ne-eqb, eqb-true}
+use borrow.Author.Tests.{eq-eqb}
 use borrow.Rule.Slice.PartMut.{putMid}
+use Rattle.text.specs.Lines.{stretch}
+use Rattle.text.proofs.Stretches.{stretch-at, stretch-within}
 use Rattle.frame.specs.Frame.{printLine}
-use Rattle.frame.specs.Lines.{held, Fed, printing, fed, stretch}
+use Rattle.frame.specs.Lines.{held, Fed, printing, fed}
 use Rattle.frame.proofs.Feeding.{held-step, held-short}
 
--- ---- the loop that looks for a line feed
-
-module _ (b : List ℕ) (i : ℕ) where
-  pub stretch-feed : i < length b → getD b i 0 ≡ 10 → stretch (drop i b) ≡ 0
-  unfolding stretch
-  stretch-feed h e = rw (drop-cons b i 0, eq-eqb (getD b i 0) 10 e) refl
-
-  pub stretch-byte : i < length b → (getD b i 0 ≡ 10 → ⊥) → stretch (drop i b) ≡ stretch (drop (i + 1) b) + 1
-  unfolding stretch
-  stretch-byte h e =
-      ap stretch (drop-cons b i 0 h)
-      ∙ rw (ne-eqb (getD b i 0) 10 e) (sym (add-one (stretch (drop (suc i) b))))
-      ∙ ap (λ (n : ℕ). stretch (drop n b) + 1) (sym (add-one i))
-
-  pub stretch-end : length b ≤ i → stretch (drop i b) ≡ 0
-  unfolding stretch
-  stretch-end h = ap stretch (drop-of-length-le b h)
-
 -- ---- a stretch at once
-
--- the byte behind a stretch is a line feed
-stretch-at : (l : List ℕ) → stretch l < length l → getD l (stretch l) 0 ≡ 10
-unfolding stretch
-stretch-at [] h = absurd (omega arith)
-stretch-at (c ∷ cs) h = go (eqb c 10) refl (stretch-at cs)
-  where
-    go : (t : Bool) → eqb c 10 ≡ t → (stretch cs < length cs → getD cs (stretch cs) 0 ≡ 10) → getD (c ∷ cs) (stretch (c ∷ cs)) 0 ≡ 10
-    go true e r = rw e (eqb-true c 10 e)
-    go false e r = rw e (r (let k : suc (stretch cs) < suc (length cs) = rw e at h in omega arith))
 
 held-most : (l : List ℕ) → length (held l) ≤ 16499
 unfolding held
@@ -111,6 +85,15 @@ put-behind out p a r h =
     ∙ append-nil (p ++ drop r (drop a out))
     ∙ ap (λ (x : List ℕ). p ++ x) (drop-drop r a out))
 
+-- ---- the first n bytes of a list of m, or all where n is more
+
+pub take-least : (l : List ℕ) (n m k : ℕ) → length l ≡ m → k ≡ min n m → take k l ≡ take n l
+take-least l n m k long e = go (decLe n m)
+  where
+    go : Dec (n ≤ m) → take k l ≡ take n l
+    go (yes h) = let p : k ≡ n = omega arith in ap (λ (i : ℕ). take i l) p
+    go (no h) = take-all k l (omega arith) ∙ sym (take-all n l (omega arith))
+
 -- ---- the loop that feeds
 
 module _ (buffer line₀ : List ℕ) (u : ℕ) (out₀ : List ℕ) where
@@ -126,15 +109,15 @@ module _ (buffer line₀ : List ℕ) (u : ℕ) (out₀ : List ℕ) where
     pub whole : fed (take u line₀) buffer ≡ printing (take printed out) (fed (take size line) (drop at buffer))
     pub behind : drop printed out ≡ drop printed out₀
 
-  pub so-far-none : (end : ℕ) → length line₀ ≡ 16499 → u ≤ 16499 → end ≡ 0 + stretch (drop 0 buffer) → end ≤ length buffer
+  pub so-far-none : (end : ℕ) → length line₀ ≡ 16499 → u ≤ 16499 → end ≡ 0 + stretch (drop 0 buffer)
       → SoFar 0 end u 0 line₀ out₀
-  so-far-none end long most ends within =
+  so-far-none end long most ends =
       record {
         line-long = long;
         out-long = refl;
         most = most;
         ends = ends;
-        within = within;
+        within = omega (arith, stretch-within buffer 0 (omega arith));
         room = omega arith;
         whole = refl;
         behind = refl;
@@ -171,9 +154,9 @@ module _ {buffer line₀ : List ℕ} {u : ℕ} {out₀ : List ℕ} {at end size 
 
     pub so-far-next : (p : ℕ) (out′ : List ℕ) (end′ : ℕ) → length line′ ≡ 16499 → n ≤ size + (end - at) → length out′ ≡ length out
         → out′ ≡ take printed out ++ (printLine (take n line′) ++ drop p out) → p ≡ printed + length (printLine (take n line′))
-        → p ≤ printed + n + 3 → printed ≤ length out → end′ ≡ end + 1 + stretch (drop (end + 1) buffer) → end′ ≤ length buffer
+        → p ≤ printed + n + 3 → printed ≤ length out → end′ ≡ end + 1 + stretch (drop (end + 1) buffer)
         → SoFar buffer line₀ u out₀ (end + 1) end′ 0 p line′ out′
-    so-far-next p out′ end′ long few same put size-is fits h ends within =
+    so-far-next p out′ end′ long few same put size-is fits h ends =
         let front : length (take printed out) ≡ printed = length-take-le printed out h in
         let head : List ℕ = take printed out ++ printLine (take n line′) in
         let head-long : length head ≡ p = simp length-append (omega arith) in
@@ -186,7 +169,7 @@ module _ {buffer line₀ : List ℕ} {u : ℕ} {out₀ : List ℕ} {at end size 
           out-long = same ∙ I .out-long;
           most = omega arith;
           ends = ends;
-          within = within;
+          within = omega (arith, stretch-within buffer (end + 1) (omega arith));
           room = omega (arith, I .room, I .ends);
           whole =
               I .whole

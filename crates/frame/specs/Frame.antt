@@ -1,7 +1,7 @@
 -- One line of the program `frames` (document 01, "Without the volume"): what is printed for it. Assumes nothing: these are definitions.
-use mathlib.Core.Bool.{Bool, true, not, _&&_, _||_, cond}
+use mathlib.Core.Bool.{not, _&&_, _||_, cond}
 use mathlib.Core.List.{List, [], _∷_, _++_}
-use Prim.Native.Nat.{ℕ, _+_, _*_, _-_, _/_, _%_}
+use Prim.Native.Nat.{ℕ, _+_, _-_, _/_, _%_}
 use lib.Dec.{eqb, leb}
 use lib.ListN.{length, take, drop, getD, replicate}
 use Rattle.block.specs.Bytes.{fromBytes}
@@ -10,29 +10,9 @@ use Rattle.verdict.specs.Answers.{Rule, rule, firstOf, settle}
 use Rattle.verdict.specs.Judging.{triple}
 use Rattle.verdict.specs.Judging as C
 use Rattle.sector.specs.Calls.{judgeCall, combineCall}
+use Rattle.text.specs.Digits.{between, allDigits, decode}
 
--- ---- hexadecimal, in ASCII
-
--- whether x lies from a to b
-abbrev pub between : ℕ → ℕ → ℕ → Bool
-between a b x = leb a x && leb x b
-
--- 0 to 9, A to F or a to f
-unfoldable pub isDigit : ℕ → Bool
-isDigit c = between 48 57 c || (between 65 70 c || between 97 102 c)
-
-unfoldable pub digitValue : ℕ → ℕ
-digitValue c = cond (leb c 57) (c - 48) (cond (leb c 70) (c - 55) (c - 87))
-
-unfoldable pub allDigits : List ℕ → Bool
-allDigits [] = true
-allDigits (c ∷ cs) = isDigit c && allDigits cs
-
--- the bytes that pairs of digits stand for
-unfoldable pub decode : List ℕ → List ℕ
-decode [] = []
-decode (a ∷ []) = []
-decode (a ∷ b ∷ cs) = (digitValue a * 16 + digitValue b) ∷ decode cs
+-- ---- bytes in hexadecimal
 
 -- the digit of a value below 16, in lower case
 unfoldable pub digit : ℕ → ℕ

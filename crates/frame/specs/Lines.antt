@@ -3,7 +3,7 @@
 use mathlib.Core.Path.{_≡_}
 use mathlib.Core.Bool.{cond}
 use mathlib.Core.List.{List, [], _∷_, _++_}
-use Prim.Native.Nat.{ℕ, suc}
+use Prim.Native.Nat.{ℕ}
 use lib.Dec.{eqb}
 use lib.ListN.{length, take}
 use Rattle.frame.specs.Frame.{printLine}
@@ -39,11 +39,6 @@ printing p r = record { rest = r .rest; printed = p ++ r .printed }
 unfoldable pub fed : List ℕ → List ℕ → Fed
 fed line [] = record { rest = line; printed = [] }
 fed line (c ∷ cs) = cond (eqb c 10) (printing (printLine line) (fed [] cs)) (fed (held (line ++ (c ∷ []))) cs)
-
--- how many bytes stand before the next line feed
-unfoldable pub stretch : List ℕ → ℕ
-stretch [] = 0
-stretch (c ∷ cs) = cond (eqb c 10) 0 (suc (stretch cs))
 
 -- the end of the input
 unfoldable pub finished : List ℕ → List ℕ

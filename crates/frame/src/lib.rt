@@ -1,50 +1,17 @@
 // One line of the program `frames`, and an input fed one buffer at a time.
 ghost use mathlib.Core.Path.{_≡_};
-ghost use mathlib.Core.Bool.{true, cond};
 ghost use mathlib.Core.List.{_++_};
 ghost use mathlib.Core.Option.{none};
 ghost use Prim.Native.Nat.{_+_, _*_, _≤_, _<_, min};
 ghost use lib.ListN.{length, take, drop, replicate};
 ghost use Rattle.verdict.specs.Answers.{firstOf};
-ghost use Rattle.frame.specs.Frame.{between, isDigit, digitValue, allDigits, together, judged, combined, called, lengthRules, kindRules, sectorRules, frameAnswer, printed, shown, printLine};
+ghost use Rattle.text.specs.Digits.{between};
+ghost use Rattle.frame.specs.Frame.{together, judged, combined, called, lengthRules, kindRules, sectorRules, frameAnswer, printed, shown, printLine};
 ghost use Rattle.frame.specs.Frame as F;
-ghost use Rattle.frame.specs.Lines.{held, fed, finished, stretch};
+ghost use Rattle.frame.specs.Lines.{held, fed, finished};
 ghost use Rattle.frame.specs.Inner.{refusalOf, Prints, Sectors};
 
 // ---- hexadecimal
-
-// The value of a digit in either case, and 16 of any other byte.
-pub fn digit_value(c: u8) -> u8
-    ensures { λ r. ⌜ r ≡ cond (isDigit c) (digitValue c) 16 ⌝ }
-{
-    match c {
-        b'0'..=b'9' => c - 48,
-        b'A'..=b'F' => c - 55,
-        b'a'..=b'f' => c - 87,
-        _ => 16,
-    }
-}
-
-// The bytes of a line of digits. False where another byte is among them.
-pub fn decode(line: &[u8], frame: &mut [u8]) -> bool
-    requires { ⌜ length (now line) ≡ 2 * length (now frame) ⌝ }
-    ensures { λ r. ⌜ (r ≡ allDigits (now (line .entry))) × (r ≡ true → now (frame .exit) ≡ F.decode (now (line .entry))) ⌝ }
-{
-    let mut i: usize = 0;
-    while i < frame.len() {
-        let high = digit_value(line[2 * i]);
-        let low = digit_value(line[2 * i + 1]);
-        if 15 < high {
-            return false;
-        }
-        if 15 < low {
-            return false;
-        }
-        frame[i] = high * 16 + low;
-        i += 1;
-    }
-    true
-}
 
 fn digit(v: u8) -> u8
     requires { ⌜ v < 16 ⌝ }
@@ -229,16 +196,16 @@ fn print_decoded(line: &[u8], frame: &mut [u8], out: &mut [u8]) -> usize
     requires { ⌜ (firstOf (lengthRules (length (now line))) ≡ none) × (length (now line) ≡ 2 * length (now frame)) × (1 ≤ length (now frame)) × (length (now line) + 3 ≤ length (now out)) ⌝ }
     ensures { λ r. ⌜ Prints (printLine (now (line .entry))) (now (out .entry)) (now (out .exit)) r (length (now (line .entry)) + 3) ⌝ }
 {
-    if decode(line, frame) {
+    if text::decode(line, frame) {
         return print_frame(&frame[..], out);
     }
     show(12, &line[..0], out)
 }
 
 // Prints what the program prints for a line, whatever bytes it has, and gives how many bytes that is.
-pub fn print_line(line: &[u8], out: &mut [u8]) -> usize
+fn print_line(line: &[u8], out: &mut [u8]) -> usize
     requires { ⌜ length (now line) + 3 ≤ length (now out) ⌝ }
-    ensures { λ r. ⌜ (now (out .exit) ≡ printLine (now (line .entry)) ++ drop r (now (out .entry))) × (r ≡ length (printLine (now (line .entry)))) × (r ≤ length (now (line .entry)) + 3) ⌝ }
+    ensures { λ r. ⌜ Prints (printLine (now (line .entry))) (now (out .entry)) (now (out .exit)) r (length (now (line .entry)) + 3) ⌝ }
 {
     let refused = check_length(line.len());
     if refused == 0 {
@@ -255,21 +222,6 @@ pub fn print_line(line: &[u8], out: &mut [u8]) -> usize
 pub struct Fed {
     pub used: usize,
     pub printed: usize,
-}
-
-// The next line feed from `at` on, or the buffer's end.
-pub fn line_end(buffer: &[u8], at: usize) -> usize
-    requires { ⌜ at ≤ length (now buffer) ⌝ }
-    ensures { λ r. ⌜ (r ≡ at + stretch (drop at (now (buffer .entry)))) × (r ≤ length (now (buffer .entry))) ⌝ }
-{
-    let mut end = at;
-    while end < buffer.len() {
-        if buffer[end] == b'\n' {
-            return end;
-        }
-        end += 1;
-    }
-    end
 }
 
 fn least(a: usize, b: usize) -> usize
@@ -297,22 +249,21 @@ fn print_held(line: &[u8], used: usize, out: &mut [u8], printed: usize) -> usize
     printed + print_line(&line[..used], &mut out[printed..])
 }
 
-// Feeds a buffer. The first `used` bytes of `line` are those of a line that has not ended. What is to be printed comes to the front of `out`.
-// No more than 16,499 bytes of a line are held, which are enough to refuse it.
-pub fn feed(buffer: &[u8], line: &mut [u8], used: usize, out: &mut [u8]) -> Fed
+// Feeds a whole buffer. No more than 16,499 bytes of a line are held, which are enough to refuse it.
+fn feed_buffer(buffer: &[u8], line: &mut [u8], used: usize, out: &mut [u8]) -> Fed
     requires { ⌜ (length (now line) ≡ 16499) × (used ≤ 16499) × (used + 3 * length (now buffer) ≤ length (now out)) ⌝ }
-    ensures { λ r. ⌜ (take (r .used) (now (line .exit)) ≡ fed (take used (now (line .entry))) (now (buffer .entry)) .rest) × (now (out .exit) ≡ fed (take used (now (line .entry))) (now (buffer .entry)) .printed ++ drop (r .printed) (now (out .entry))) × (r .printed ≡ length (fed (take used (now (line .entry))) (now (buffer .entry)) .printed)) × (r .used ≤ 16499) × (r .printed ≤ length (now (out .entry))) ⌝ }
+    ensures { λ r. ⌜ (take (r .used) (now (line .exit)) ≡ fed (take used (now (line .entry))) (now (buffer .entry)) .rest) × Prints (fed (take used (now (line .entry))) (now (buffer .entry)) .printed) (now (out .entry)) (now (out .exit)) (r .printed) (length (now (out .entry))) × (r .used ≤ 16499) ⌝ }
 {
     let mut at: usize = 0;
     let mut size = used;
     let mut printed: usize = 0;
-    let mut end = line_end(buffer, 0);
+    let mut end = text::line_end(buffer, 0);
     while end < buffer.len() {
         let n = hold(&buffer[at..end], line, size);
         printed = print_held(&line[..], n, out, printed);
         size = 0;
         at = end + 1;
-        end = line_end(buffer, at);
+        end = text::line_end(buffer, at);
     }
     let last = hold(&buffer[at..end], line, size);
     Fed {
@@ -321,13 +272,35 @@ pub fn feed(buffer: &[u8], line: &mut [u8], used: usize, out: &mut [u8]) -> Fed
     }
 }
 
-// Prints the line that the end of the input ends, if it is not empty.
-pub fn finish(line: &[u8], out: &mut [u8]) -> usize
-    requires { ⌜ length (now line) + 3 ≤ length (now out) ⌝ }
-    ensures { λ r. ⌜ (now (out .exit) ≡ finished (now (line .entry)) ++ drop r (now (out .entry))) × (r ≡ length (finished (now (line .entry)))) × (r ≤ length (now (line .entry)) + 3) ⌝ }
+// Feeds the first n bytes of a buffer.
+fn feed_front(buffer: &[u8], n: usize, line: &mut [u8], used: usize, out: &mut [u8]) -> Fed
+    requires { ⌜ (n ≤ length (now buffer)) × (length (now line) ≡ 16499) × (used ≤ 16499) × (used + 3 * n ≤ length (now out)) ⌝ }
+    ensures { λ r. ⌜ (take (r .used) (now (line .exit)) ≡ fed (take used (now (line .entry))) (take n (now (buffer .entry))) .rest) × Prints (fed (take used (now (line .entry))) (take n (now (buffer .entry))) .printed) (now (out .entry)) (now (out .exit)) (r .printed) (length (now (out .entry))) × (r .used ≤ 16499) ⌝ }
 {
-    if line.len() == 0 {
+    feed_buffer(&buffer[..n], line, used, out)
+}
+
+// Feeds the first n bytes of a buffer, or all where n is more. The first `used` bytes of `line`, or all, are those of a line that has not
+// ended. What is to be printed comes to the front of `out`: at most three bytes for each byte fed, and one for each held before.
+pub fn feed(
+    buffer: &[u8; 65536],
+    n: usize,
+    line: &mut [u8; 16499],
+    used: usize,
+    out: &mut [u8; 213107],
+) -> Fed
+    ensures { λ r. ⌜ (take (r .used) (now (line .exit)) ≡ fed (take used (now (line .entry))) (take n (now (buffer .entry))) .rest) × Prints (fed (take used (now (line .entry))) (take n (now (buffer .entry))) .printed) (now (out .entry)) (now (out .exit)) (r .printed) 213107 × (r .used ≤ 16499) ⌝ }
+{
+    feed_front(buffer, least(n, 65536), line, least(used, 16499), out)
+}
+
+// Prints the line that the end of the input ends, if it is not empty: the first `used` bytes of `line`, or all.
+pub fn finish(line: &[u8; 16499], used: usize, out: &mut [u8; 213107]) -> usize
+    ensures { λ r. ⌜ Prints (finished (take used (now (line .entry)))) (now (out .entry)) (now (out .exit)) r 16502 ⌝ }
+{
+    let size = least(used, 16499);
+    if size == 0 {
         return 0;
     }
-    print_line(line, out)
+    print_held(line, size, out, 0)
 }

@@ -5,7 +5,7 @@
 use libc::STDIN_FILENO;
 use libc::STDOUT_FILENO;
 ghost use mathlib.Core.Path.{_≡_};
-ghost use Prim.Native.Nat.{_+_, _*_, _≤_, _<_};
+ghost use Prim.Native.Nat.{_+_, _≤_, _<_};
 ghost use lib.ListN.{length};
 
 const SEAL: u8 = 0;
@@ -288,10 +288,8 @@ fn frame_agrees(kind: u8, frame: &[u8]) -> bool {
 
 // ---- lines
 
-fn line_agrees_in(kind: u8, line: &[u8], frame: &mut [u8]) -> bool
-    requires { ⌜ length (now line) ≡ 2 * length (now frame) ⌝ }
-{
-    if frame::decode(line, frame) {
+fn line_agrees_in(kind: u8, line: &[u8], frame: &mut [u8]) -> bool {
+    if text::decode(line, frame) {
         return frame_agrees(kind, &frame[..]);
     }
     false
@@ -300,10 +298,8 @@ fn line_agrees_in(kind: u8, line: &[u8], frame: &mut [u8]) -> bool
 fn line_agrees(kind: u8, line: &[u8]) -> bool {
     let size = line.len() / 2;
     if size <= 65536 {
-        if 2 * size == line.len() {
-            let mut frame = io::large_buffer();
-            return line_agrees_in(kind, line, &mut frame[..size]);
-        }
+        let mut frame = io::large_buffer();
+        return line_agrees_in(kind, line, &mut frame[..size]);
     }
     false
 }
@@ -314,7 +310,7 @@ fn kind_of(line: &[u8]) -> u8 {
         return UNKNOWN;
     }
     if line[0] == b'0' {
-        let kind = frame::digit_value(line[1]);
+        let kind = text::digit_value(line[1]);
         if kind < UNKNOWN {
             return kind;
         }
@@ -323,11 +319,11 @@ fn kind_of(line: &[u8]) -> u8 {
 }
 
 // The start of the line after the one that ends at `end`.
-fn line_after(text: &[u8], at: usize, end: usize) -> usize
-    requires { ⌜ (at ≤ end) × (end ≤ length (now text)) × (at < length (now text)) ⌝ }
-    ensures { λ r. ⌜ (at < r) × (r ≤ length (now (text .entry))) ⌝ }
+fn line_after(input: &[u8], at: usize, end: usize) -> usize
+    requires { ⌜ (at ≤ end) × (end ≤ length (now input)) × (at < length (now input)) ⌝ }
+    ensures { λ r. ⌜ (at < r) × (r ≤ length (now (input .entry))) ⌝ }
 {
-    if end < text.len() {
+    if end < input.len() {
         return end + 1;
     }
     end
@@ -385,24 +381,24 @@ fn counted(tally: Tally, kind: u8, line: &[u8], n: usize) -> Tally
 }
 
 // Replays the lines of one kind.
-fn replay(text: &[u8], kind: u8) -> Tally {
+fn replay(input: &[u8], kind: u8) -> Tally {
     let mut tally = Tally {
         agreed: 0,
         differ: 0,
     };
     let mut at: usize = 0;
     let mut n: usize = 0;
-    while at < text.len() {
-        let end = frame::line_end(text, at);
+    while at < input.len() {
+        let end = text::line_end(input, at);
         n += 1;
-        tally = counted(tally, kind, &text[at..end], n);
-        at = line_after(text, at, end);
+        tally = counted(tally, kind, &input[at..end], n);
+        at = line_after(input, at, end);
     }
     tally
 }
 
-fn report(text: &[u8], kind: u8) {
-    let tally = replay(text, kind);
+fn report(input: &[u8], kind: u8) {
+    let tally = replay(input, kind);
     print_name(kind);
     io::write_all(STDOUT_FILENO, b" ");
     io::print_decimal(STDOUT_FILENO, tally.agreed as u64);
@@ -411,16 +407,16 @@ fn report(text: &[u8], kind: u8) {
     io::write_all(STDOUT_FILENO, b" differ\n");
 }
 
-fn report_all(text: &[u8]) {
-    if text.len() == 1048576 {
+fn report_all(input: &[u8]) {
+    if input.len() == 1048576 {
         io::write_all(STDOUT_FILENO, b"the input is too long\n");
     }
-    report(text, SEAL);
-    report(text, JUDGE);
-    report(text, OPEN);
-    report(text, REBUILD);
-    report(text, COMBINE);
-    report(text, UNKNOWN);
+    report(input, SEAL);
+    report(input, JUDGE);
+    report(input, OPEN);
+    report(input, REBUILD);
+    report(input, COMBINE);
+    report(input, UNKNOWN);
 }
 
 // Room for the whole input.

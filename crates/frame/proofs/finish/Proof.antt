@@ -1,32 +1,39 @@
 -- `finish` meets its contract. Assumes nothing.
-use mathlib.Core.Path.{sym, ap, _∙_}
+use mathlib.Core.Path.{_≡_, sym, ap, _∙_}
 use mathlib.Core.List.{List, _++_}
-use Prim.Native.Nat.{ℕ}
+use Prim.Native.Nat.{ℕ, _<_}
 use native.Mathlib.Omega.{arith}
-use lib.ListN.{length, drop}
+use lib.ListN.{length, take, length-take}
+use Rattle.frame.specs.Frame.{printLine}
 use Rattle.frame.proofs.Feeding.{finished-none, finished-some}
+use Rattle.frame.proofs.Frames.{reprint}
+use Rattle.frame.proofs.Stretches.{take-least}
 use borrow.Author.Needs.{needs}
 use Rattle.frame.proofs.finish.Statement.{statement}
 use Rattle.frame.proofs.finish.Tie as tie
 
+least-requires : tie.Need-least-requires
+least-requires c κs = search needs
+
 returns : tie.Need-returns
 returns c =
-    let a = c .before .before .before .args in
-    let e = finished-none (a .line .now) (omega arith) in
+    let a = c .before .before .args in
+    let none : length (take (a .used) (a .line .now)) ≡ 0 = simp length-take (omega arith) in
+    let e = finished-none (take (a .used) (a .line .now)) none in
     (ap (λ (x : List ℕ). x ++ a .out .now) (sym e), ap length (sym e), omega arith)
 
-print-line-requires : tie.Need-print-line-requires
-print-line-requires c κs = search needs
-
-same-length : tie.Need-same-length
-same-length c = search needs
+print-held-requires : tie.Need-print-held-requires
+print-held-requires c κs = search needs
 
 returns-2 : tie.Need-returns-2
 returns-2 c =
-    let a = c .before .before .before .before .before .before .before .args in
-    let r = c .before .before .print-line in
-    let e = finished-some (a .line .now) (omega arith) in
-    (r .ensures .0 ∙ ap (λ (x : List ℕ). x ++ drop (r .result) (a .out .now)) (sym e), r .ensures .1 ∙ ap length (sym e), r .ensures .2)
+    let a = c .before .before .before .before .before .args in
+    let r = c .print-held in
+    let size = c .before .before .before .before .least in
+    let some : 0 < length (take (a .used) (a .line .now)) = simp length-take (omega arith) in
+    let same = take-least (a .line .now) (a .used) 16499 (size .result) (omega arith) (size .ensures) in
+    reprint (a .out .now) _ (r .result) 16502 (finished-some (take (a .used) (a .line .now)) some ∙ ap printLine (sym same)) (omega arith)
+    (r .ensures .0, omega (arith, r .ensures .1), r .ensures .2)
 
 pub finish-spec : {M : Type 1} → statement M
-finish-spec = tie.close (tie.spec returns print-line-requires same-length returns-2)
+finish-spec = tie.close (tie.spec least-requires returns print-held-requires returns-2)

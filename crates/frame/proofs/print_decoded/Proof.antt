@@ -1,7 +1,10 @@
 use mathlib.Core.Path.{sym, ap, _∙_}
+use mathlib.Core.Bool.{cond}
 use mathlib.Core.List.{List}
 use Prim.Native.Nat.{ℕ}
 use native.Mathlib.Omega.{arith}
+use Rattle.text.specs.Digits.{decode}
+use Rattle.text.proofs.Digits.{by-digits}
 use Rattle.frame.specs.Frame.{frameAnswer, shown}
 use Rattle.frame.proofs.Frames.{reprint}
 use Rattle.frame.proofs.Refusals.{digits-pass, digits-refused}
@@ -22,7 +25,15 @@ same-length-2 : tie.Need-same-length-2
 same-length-2 c = search needs
 
 returns : tie.Need-returns
-returns c = reprint (c .before .before .before .before .before .before .before .before .before .before .before .before .before .args .out .now) (c .before .before .print-frame .last .1 .0) (c .before .before .print-frame .result) _ (digits-pass (c .before .before .before .before .before .before .before .before .before .before .before .before .before .args .line .now) (c .before .before .before .before .before .before .before .before .before .before .before .before .before .pre .0) (sym (c .before .before .before .before .before .before .before .before .decode .ensures .0) ∙ c .before .before .before .before .before .if1 .taken) ∙ ap (λ (f : List ℕ). shown (frameAnswer f)) (sym (c .before .before .before .before .before .before .before .before .decode .ensures .1 (c .before .before .before .before .before .if1 .taken)))) (omega arith) (c .before .before .print-frame .ensures)
+returns c =
+    let a = c .before .before .before .before .before .before .before .before .before .before .before .before .before .args in
+    let h = c .before .before .before .before .before .before .before .before .before .before .before .before .before .pre in
+    let d = c .before .before .before .before .before .before .before .before .decode in
+    let yes = c .before .before .before .before .before .if1 .taken in
+    reprint (a .out .now) (c .before .before .print-frame .last .1 .0) (c .before .before .print-frame .result) _
+    (digits-pass (a .line .now) (h .0) (by-digits (a .line .now) (a .frame .now) (h .1) ∙ sym (d .ensures .0) ∙ yes)
+    ∙ ap (λ (f : List ℕ). shown (frameAnswer f)) (sym (d .ensures .1 ∙ ap (λ b. cond b (decode (a .line .now)) (a .frame .now)) yes)))
+    (omega arith) (c .before .before .print-frame .ensures)
 
 slice-aggregate-show : tie.Need-slice-aggregate-show
 slice-aggregate-show c = search needs
@@ -37,7 +48,13 @@ same-length-4 : tie.Need-same-length-4
 same-length-4 c = search needs
 
 returns-2 : tie.Need-returns-2
-returns-2 c = reprint (c .before .before .before .before .before .before .before .before .before .before .before .before .before .args .out .now) (c .before .before .show .last .1 .1 .0) (c .before .before .show .result) _ (digits-refused (c .before .before .before .before .before .before .before .before .before .before .before .before .before .args .line .now) (c .before .before .before .before .before .before .before .before .before .before .before .before .before .pre .0) (sym (c .before .before .before .before .before .before .before .before .decode .ensures .0) ∙ c .before .before .before .before .before .if1 .left)) (omega arith) (c .before .before .show .ensures)
+returns-2 c =
+    let a = c .before .before .before .before .before .before .before .before .before .before .before .before .before .args in
+    let h = c .before .before .before .before .before .before .before .before .before .before .before .before .before .pre in
+    let d = c .before .before .before .before .before .before .before .before .decode in
+    reprint (a .out .now) (c .before .before .show .last .1 .1 .0) (c .before .before .show .result) _
+    (digits-refused (a .line .now) (h .0) (by-digits (a .line .now) (a .frame .now) (h .1) ∙ sym (d .ensures .0) ∙ c .before .before .before .before .before .if1 .left))
+    (omega arith) (c .before .before .show .ensures)
 
 pub print-decoded-spec : {M : Type 1} → statement M
 print-decoded-spec =

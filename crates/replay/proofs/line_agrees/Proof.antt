@@ -4,9 +4,6 @@ use borrow.Author.Needs.{needs}
 use Rattle.replay.proofs.line_agrees.Statement.{statement}
 use Rattle.replay.proofs.line_agrees.Tie as tie
 
-mul-if2 : tie.Need-mul-if2
-mul-if2 c = search needs
-
 large-buffer-requires : tie.Need-large-buffer-requires
 large-buffer-requires c κs = search needs
 
@@ -17,7 +14,7 @@ slice-aggregate-line-agrees-in : tie.Need-slice-aggregate-line-agrees-in
 slice-aggregate-line-agrees-in c = simp length-take (omega arith)
 
 line-agrees-in-requires : tie.Need-line-agrees-in-requires
-line-agrees-in-requires c κs = simp length-take (omega arith)
+line-agrees-in-requires c κs = search needs
 
 returns : tie.Need-returns
 returns c = search needs
@@ -25,18 +22,13 @@ returns c = search needs
 returns-2 : tie.Need-returns-2
 returns-2 c = search needs
 
-returns-3 : tie.Need-returns-3
-returns-3 c = search needs
-
 pub line-agrees-spec : {M : Type 1} → statement M
 line-agrees-spec =
     tie.close
     (tie.spec
-    mul-if2
     large-buffer-requires
     array-borrow-prefix-frame
     slice-aggregate-line-agrees-in
     line-agrees-in-requires
     returns
-    returns-2
-    returns-3)
+    returns-2)

@@ -1,8 +1,8 @@
 use native.Mathlib.Omega.{arith}
-use Rattle.frame.proofs.Digits.{decimal, upper, lower, other}
+use Rattle.text.proofs.Digits.{decimal, upper, lower, other}
 use borrow.Author.Needs.{needs}
-use Rattle.frame.proofs.digit_value.Statement.{statement}
-use Rattle.frame.proofs.digit_value.Tie as tie
+use Rattle.text.proofs.digit_value.Statement.{statement}
+use Rattle.text.proofs.digit_value.Tie as tie
 
 sub-result : tie.Need-sub-result
 sub-result c = search needs
