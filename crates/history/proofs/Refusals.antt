@@ -111,6 +111,10 @@ shape-facts s n v e = (leb-true 1 n (and-left (leb 1 n) _ e), go)
         eqb-true (length (v .remote)) (n * s)
         (and-left (eqb (length (v .remote)) (n * s)) _ (and-right (eqb (length (v .local)) (n * s)) _ lengths-hold))
 
+pub count-le : (s n : ℕ) (v : Triple) → isShape s n v ≡ true → n ≤ 65536
+unfolding isShape shape
+count-le s n v e = leb-true n 65536 (and-left (leb n 65536) _ (and-right (leb 1 n) _ e))
+
 pub shape-images : (s n : ℕ) (v : Triple) → isShape s n v ≡ true → AnyBytes v → Images s n v
 shape-images s n v e b = record { images = λ p. record { long = shape-facts s n v e .1 p; bytes = b p } }
 

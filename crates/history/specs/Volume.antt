@@ -43,6 +43,9 @@ pub record Args : Type 0 where
   pub count : ℕ
   pub number : ℕ
 
+abbrev pub args : Key → ℕ → ℕ → ℕ → Args
+args k s n i = record { key = k; size = s; count = n; number = i }
+
 -- the calls on one sector, with what else they take: a stage its plaintext, a read the length of its output
 pub data Call : Type 0 where
   blank : Call

@@ -5,11 +5,9 @@ use mathlib.Core.List.{List, [], _∷_}
 use mathlib.Core.Option.{Option, none, some}
 use Prim.Native.Nat.{ℕ, _≤_}
 use native.Mathlib.Omega.{arith}
-use lib.Dec.{leb}
 use lib.ListN.{length, take, replicate, length-take, length-replicate}
-use borrow.Author.Tests.{leb-true}
 use Rattle.block.specs.Bytes.{patch}
-use Rattle.block.proofs.Lists.{and-left, and-right, take-zeros}
+use Rattle.block.proofs.Lists.{take-zeros}
 use Rattle.block.proofs.Parts.{part-end}
 use Rattle.mode.specs.Scheme.{local, tag, remote, on, Scheme}
 use Rattle.mode.specs.Sealing.{Triple}
@@ -18,16 +16,13 @@ use Rattle.verdict.specs.Answers.{rule, firstOf}
 use Rattle.verdict.specs.Judging.{verdictOutcome}
 use Rattle.verdict.specs.Verdict.{Verdict, whole, doubtful, lost, clashing, fits, judge}
 use Rattle.history.specs.Answers.{Answer, done, reply, isWhole, isLost, isClashing, unjudged, judgeAnswer, answerNumber, output}
-use Rattle.volume.specs.Lent.{Within, stage, firstOutcome, secondOutcome, thirdOutcome, mendOutcome}
-use Rattle.history.specs.Volume.{store, writeAll, Args, Call, blank, first, second, third, mend, read, shape, isShape, lengthRules, lengths, early, mends, writes, mendAnswer, result, unless, sector, refusal, after, mirror, outcome, readOutcome}
+use Rattle.images.specs.Lent.{Within}
+use Rattle.volume.specs.Inner.{stage, firstOutcome, secondOutcome, thirdOutcome, mendOutcome}
+use Rattle.history.specs.Volume.{store, writeAll, Args, Call, blank, first, second, third, mend, read, lengthRules, lengths, early, mends, writes, mendAnswer, result, unless, sector, refusal, after, mirror, outcome, readOutcome}
 use Rattle.history.proofs.Images.{after-accepted, after-refused}
-use Rattle.history.proofs.Refusals.{passed, long-3, shape-facts, refusal-late, answer-accepted, answer-refused, answer-late, early-answer, refusal-early}
+use Rattle.history.proofs.Refusals.{passed, long-3, shape-facts, count-le, refusal-late, answer-accepted, answer-refused, answer-late, early-answer, refusal-early}
 
 -- ---- ranges
-
-pub count-le : (s n : ℕ) (v : Triple) → isShape s n v ≡ true → n ≤ 65536
-unfolding isShape shape
-count-le s n v e = leb-true n 65536 (and-left (leb n 65536) _ (and-right (leb 1 n) _ e))
 
 -- what passing the early checks shows
 pub within : (v : Triple) (a : Args) (c : Call) → firstOf (early v a c) ≡ none
