@@ -64,7 +64,7 @@ module _ (seals : Key → Scheme) (sound : Sound seals) (vol : Volume) where
   accepted-step v h g a i c f e l k =
       let b : AnyBytes v = any-bytes (vol .size) (vol .count) v (g .images) in
       let z = left seals sound v b (args vol a i) c f l k e in
-      let lt : i < vol .count = accepted-passed seals v (args vol a i) c e .common .number in
+      let lt : i < vol .count = accepted-passed seals v (args vol a i) c e .number in
       subst (λ (y : State). Agrees seals vol (leavesCall seals v (args vol a i) c f) y) (sym (machine-accepted seals vol v h (args vol a i) c f e))
       (agrees-put v (leavesCall seals v (args vol a i) c f) h i _ g (z .images)
       (held-after seals sound v b (args vol a i) c f l k e (h i) (g .agree i lt)) (z .others))

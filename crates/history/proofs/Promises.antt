@@ -76,7 +76,7 @@ module _ (seals : Key → Scheme) (vol : Volume) (v : Triple) (i : ℕ) (a : Arg
   proper-args c p = takes-args vol a (p .takes) ∙ ap (args vol a) (p .names)
 
   proper-lt : (c : Call) → Proper vol v i a c → i < vol .count
-  proper-lt c p = subst (λ (b : Args). b .number < b .count) (proper-args c p) (passed v a c (p .passes) .common .number)
+  proper-lt c p = subst (λ (b : Args). b .number < b .count) (proper-args c p) (passed v a c (p .passes) .number)
 
   -- only the last refusals can turn it away
   pub proper-refusal : (c : Call) → Proper vol v i a c → refusal seals v a c ≡ firstOf (late (own seals vol) i (at vol v i) c)

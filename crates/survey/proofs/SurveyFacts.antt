@@ -51,7 +51,7 @@ module _ (vol : Volume) (v : Triple) (room : ℕ) (accepted : Accepted vol v roo
         takes = record { key = refl; size = refl; count = refl };
         names = refl;
         lent = tt;
-        passes = passes-early v a (read (vol .size)) (record { common = record { key = t .0; size = t .1; shape = t .2; number = lt }; lengths = same-length (vol .size) });
+        passes = passes-early v a (read (vol .size)) (record { common = t .0; number = lt; lengths = same-length (vol .size) });
       }
 
   found-not-lost : Found mirror vol v i → isLost (verdicts vol v i) ≡ false

@@ -6,14 +6,14 @@ use mathlib.Core.Option.{Option, none, some}
 use Prim.Native.Nat.{ℕ, suc, _+_, _-_, _<_, _≤_}
 use native.Mathlib.Numerals.{add-one}
 use native.Mathlib.Omega.{arith}
-use lib.Dec.{eqb}
+use lib.Dec.{eqb, ltb}
 use lib.ListN.{length, drop, set, length-append}
 use lib.Seq.{drop-cons, set-at}
-use borrow.Author.Tests.{not-false, ltb-false, eq-eqb, ne-eqb}
+use borrow.Author.Tests.{ltb-false, eq-eqb, ne-eqb}
 use Rattle.mode.specs.declared.Context.{Context}
 use Rattle.mode.specs.declared.Prepared.{Prepared}
 use Rattle.mode.specs.Prepared.{PreparedFor, Ready}
-use Rattle.mode.specs.Scheme.{local, tag, remote, isKey, isSize, Scheme}
+use Rattle.mode.specs.Scheme.{Scheme}
 use Rattle.mode.specs.Sealing.{Triple, Key, tweak}
 use Rattle.block.specs.Value.{value}
 use Rattle.block.specs.Bytes.{part}
@@ -22,19 +22,18 @@ use Rattle.verdict.specs.declared.Judged.the-variants as J
 use Rattle.verdict.specs.declared.Place as D
 use Rattle.verdict.specs.declared.Refusal.{Refusal}
 use Rattle.verdict.specs.declared.Refusal.the-variants.{KeyLength, SectorSize, OtherLength, UnknownSide, NoneFits, Lost, Clashing, VolumeShape, SectorNumber, StageOrder, ListLength}
-use Rattle.verdict.specs.Answers.{Rule, firstOf, settleBy, refusalNumber, judgedNumber}
+use Rattle.verdict.specs.Answers.{Rule, rule, firstOf, settleBy, refusalNumber, judgedNumber}
 use Rattle.verdict.specs.Judging.{key, triple, verdictNumber, schemeOf, judgedBy}
 use Rattle.verdict.specs.Verdict.{Verdict, whole, doubtful, lost, clashing, fits, fitsTwo, candidate, grade, judge}
 use Rattle.verdict.proofs.Prepared.{scheme-is}
+use Rattle.verdict.proofs.Rules.{only-rule, none-left, none-right}
 use Rattle.survey.specs.declared.Counts.{Counts}
 use Rattle.history.specs.Answers.{isWhole, isDoubtful, isClashing, isLost}
-use Rattle.images.specs.Lent.{Within, placesOf}
+use Rattle.images.specs.Lent.{placesOf}
 use Rattle.survey.specs.Survey.{tally, listed, health, countsOf, written, Report, counted, refused, surveyRules, verdictAt, surveyed, surveyOutcome}
-use Rattle.survey.specs.Inner.{Room, verdictBy, Tells, addIf, counting, CountsOne, ListsOne}
-use Rattle.history.specs.Volume.{isShape, mirror}
-use Rattle.block.proofs.Parts.{part-end}
-use Rattle.mode.proofs.Sizes.{key-size, size-whole, size-le}
-use Rattle.history.proofs.Refusals.{none-holds, shape-facts, count-le}
+use Rattle.survey.specs.Inner.{verdictBy, Tells, addIf, counting, CountsOne, ListsOne}
+use Rattle.history.specs.Volume.{isShape, volumeRules, mirror}
+use Rattle.history.proofs.Refusals.{Common, common}
 use Rattle.verdict.proofs.Numbers.{refusal-range, place-least, doubt-least}
 use Rattle.survey.proofs.Tallies.{tally-le, length-listed}
 
@@ -195,26 +194,14 @@ pub survey-keyed : (k : List ℕ) (r : Prepared) → PreparedFor k r → (s n : 
 unfolding judge grade fitsTwo fits candidate mirror
 survey-keyed k r e s n l g x list = ap (λ (S : Scheme). surveyed (verdictBy S s l g x) n list) (scheme-is k r e)
 
-pub within-room : (s n i l g r room : ℕ) → Room s n l g r room → i < n → Within s i l g r
-within-room s n i l g r room z h =
-    let p = part-end s n i h in
-    let q = part-end 16 n i h in
-    record { blocks = z .blocks; most = z .most; number = omega arith; local-end = omega arith; tag-end = omega arith; remote-end = omega arith }
-
 -- ---- the refusals
 
-module _ (v : Triple) (k : Key) (s n room : ℕ) where
-  -- what passing them shows
-  pub tests : firstOf (surveyRules k s n (isShape s n v) room) ≡ none → (isKey k ≡ true) × (isSize s ≡ true) × (isShape s n v ≡ true) × (n ≤ room)
-  tests e =
-      let (a, (b, (c, (d, z)))) = none-holds (surveyRules k s n (isShape s n v) room) e in
-      (not-false (isKey k) a, not-false (isSize s) b, not-false (isShape s n v) c, ltb-false room n d)
-
-  pub has-room : firstOf (surveyRules k s n (isShape s n v) room) ≡ none → (length (k .bytes) ≡ 32) × Room s n (length (v .local)) (length (v .tag)) (length (v .remote)) room
-  has-room e =
-      let t = tests e in
-      let f = shape-facts s n v (t .2) in
-      (key-size k (t .0), record { blocks = size-whole s (t .1); most = size-le s (t .1); some-sector = f .0; count = count-le s n v (t .2); local-size = f .1 local; tag-size = f .1 tag; remote-size = f .1 remote; list-size = t .3 })
+-- what passing them shows
+pub tests : (v : Triple) (k : Key) (s n room : ℕ) → firstOf (surveyRules k s n (isShape s n v) room) ≡ none → Common v k s n × (n ≤ room)
+tests v k s n room e =
+    let first : List Rule = volumeRules k s (isShape s n v) in
+    let eleven : List Rule = rule 11 (ltb room n) ∷ [] in
+    (common v k s n (none-left eleven first e), ltb-false room n (only-rule (ltb room n) 11 (none-right eleven first e)))
 
 module _ (v : Triple) (k : Key) (s n : ℕ) (list : List ℕ) where
   abbrev rules : List Rule

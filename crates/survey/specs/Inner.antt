@@ -1,8 +1,8 @@
--- What the inner functions are lent, and what they give. Assumes nothing: these are definitions.
+-- What the inner functions give. Assumes nothing: these are definitions.
 use mathlib.Core.Path.{_≡_}
 use mathlib.Core.Bool.{Bool, cond}
 use mathlib.Core.List.{List}
-use Prim.Native.Nat.{ℕ, suc, _*_, _%_, _≤_}
+use Prim.Native.Nat.{ℕ, suc}
 use lib.ListN.{set}
 use Rattle.mode.specs.Sealing.{tweak}
 use Rattle.mode.specs.Scheme.{Scheme}
@@ -13,17 +13,6 @@ use Rattle.verdict.specs.Verdict.{Verdict, judge}
 use Rattle.history.specs.Answers.{isWhole, isDoubtful, isClashing, isLost}
 use Rattle.images.specs.Lent.{placesOf}
 use Rattle.survey.specs.declared.Counts.{Counts}
-
--- a sector size s, a count n and a list with room for it, and images of l, g and r bytes
-pub record Room (s n l g r room : ℕ) : Type 0 where
-  pub blocks : s % 16 ≡ 0
-  pub most : s ≤ 4096
-  pub some-sector : 1 ≤ n
-  pub count : n ≤ 65536
-  pub local-size : l ≡ n * s
-  pub tag-size : g ≡ n * 16
-  pub remote-size : r ≡ n * s
-  pub list-size : n ≤ room
 
 -- the verdicts by the mode, with the tweak of each number
 abbrev pub verdictBy : Scheme → ℕ → List ℕ → List ℕ → List ℕ → ℕ → Verdict

@@ -2,15 +2,15 @@
 -- `SurveyFacts`, at the end, states what is proved of them, as `survey-facts`.
 use mathlib.Core.Path.{_≡_}
 use mathlib.Core.Logic.{_↔_}
-use mathlib.Core.Bool.{Bool, true, false, not, cond}
+use mathlib.Core.Bool.{Bool, true, false, cond}
 use mathlib.Core.List.{List, [], _∷_, _++_, List·Memᴰ}
 use mathlib.Core.Option.{none}
 use Prim.Native.Nat.{ℕ, zero, suc, _+_, _*_, _/_, _<_, _≤_}
 use lib.Dec.{ltb}
 use lib.ListN.{length, getD, drop}
 use Rattle.mode.specs.Sealing.{Triple, Key}
-use Rattle.mode.specs.Scheme.{isSize, Scheme}
-use Rattle.verdict.specs.Answers.{Rule, rule, firstOf, keyRules, settleBy, refusalNumber}
+use Rattle.mode.specs.Scheme.{Scheme}
+use Rattle.verdict.specs.Answers.{Rule, rule, firstOf, settleBy, refusalNumber}
 use Rattle.verdict.specs.Verdict.{Verdict, judge}
 use Rattle.survey.specs.declared.Counts.{Counts}
 use Rattle.survey.specs.declared.Surveyed.{Surveyed}
@@ -18,7 +18,7 @@ use Rattle.survey.specs.declared.Surveyed.the-variants.{Counted, Refused
 use Rattle.history.specs.Answers.{isWhole, isDoubtful, isClashing, isLost}
 use Rattle.history.specs.History.{AnyBytes}
 use Rattle.history.specs.Machine.{Event, Held, gone, kept, start, Volume, AllAllowed, run, hold}
-use Rattle.history.specs.Volume.{sectorOf, isShape, mirror}
+use Rattle.history.specs.Volume.{sectorOf, isShape, volumeRules, mirror}
 
 -- ---- counts and the list, from the verdict on each sector
 
@@ -61,12 +61,9 @@ abbrev pub reportOf : Surveyed → Report
 reportOf (Counted c) = counted c
 reportOf (Refused r) = refused (refusalNumber r)
 
--- refusals 2, 8 and 11; `right` says whether n and the images have the right shape, `room` is the list's length
-abbrev pub listRules : ℕ → ℕ → Bool → ℕ → List Rule
-listRules s n right room = rule 2 (not (isSize s)) ∷ rule 8 (not right) ∷ rule 11 (ltb room n) ∷ []
-
+-- after 1, 2 and 8 of every call: 11, of a list of `room` numbers
 abbrev pub surveyRules : Key → ℕ → ℕ → Bool → ℕ → List Rule
-surveyRules k s n right room = keyRules k ++ listRules s n right room
+surveyRules k s n right room = volumeRules k s right ++ rule 11 (ltb room n) ∷ []
 
 -- the verdict on sector i of the images v
 abbrev pub verdictAt : Scheme → ℕ → Triple → ℕ → Verdict

@@ -13,9 +13,9 @@ ghost use Rattle.verdict.specs.Judging.{schemeOf};
 ghost use Rattle.verdict.specs.Judging as C;
 ghost use Rattle.history.specs.Volume.{mirror};
 ghost use Rattle.history.specs.Volume as W;
-ghost use Rattle.images.specs.Lent.{Within};
-ghost use Rattle.survey.specs.Survey.{listRules, surveyRules, verdictAt, health, counted, surveyed, reportOf, surveyOutcome};
-ghost use Rattle.survey.specs.Inner.{Room, verdictBy, Tells, CountsOne, ListsOne};
+ghost use Rattle.images.specs.Lent.{Room, Within};
+ghost use Rattle.survey.specs.Survey.{surveyRules, verdictAt, health, counted, surveyed, reportOf, surveyOutcome};
+ghost use Rattle.survey.specs.Inner.{verdictBy, Tells, CountsOne, ListsOne};
 
 // How many sectors have each verdict, and the whole ones in thousandths.
 pub struct Counts {
@@ -32,29 +32,17 @@ pub enum Surveyed {
     Refused(Refusal),
 }
 
-// Refusals 2, 8 and 11 of a survey with a list of this length.
-fn check_list(s: usize, n: usize, l: usize, g: usize, r: usize, room: usize) -> Done
-    ensures { λ d. ⌜ firstOf (listRules s n (W.shape s n l g r) room) ≡ doneOption d ⌝ }
-{
-    if verdict::is_size(s) {
-        if history::fits_shape(s, n, l, g, r) {
-            if room < n {
-                return Done::Refused(Refusal::ListLength);
-            }
-            return Done::Done;
-        }
-        return Done::Refused(Refusal::VolumeShape);
-    }
-    Done::Refused(Refusal::SectorSize)
-}
-
-// Refusals 1, 2, 8 and 11.
+// Refusals 1, 2, 8 and 11 of a survey with a list of this length.
 fn check_survey(key: &[u8], s: usize, n: usize, l: usize, g: usize, r: usize, room: usize) -> Done
     ensures { λ d. ⌜ firstOf (surveyRules (C.key (now (key .entry))) s n (W.shape s n l g r) room) ≡ doneOption d ⌝ }
 {
-    let keyed = verdict::check_key(key);
-    match keyed {
-        Done::Done => check_list(s, n, l, g, r, room),
+    let checked = history::check_volume(key, s, n, l, g, r);
+    match checked {
+        Done::Done => if room < n {
+            Done::Refused(Refusal::ListLength)
+        } else {
+            Done::Done
+        },
         Done::Refused(f) => Done::Refused(f),
     }
 }
@@ -145,7 +133,7 @@ fn survey_in(
     sum: &mut [u8],
     work: &mut [u8],
 ) -> Counts
-    requires { ⌜ Ready (now t) (now w) (now powers) m × Room s n (length (now local)) (length (now tags)) (length (now remote)) (length (now list)) × (length (now plain) ≡ s) × (length (now sum) ≡ s) × (length (now work) ≡ s) ⌝ }
+    requires { ⌜ Ready (now t) (now w) (now powers) m × Room s n (length (now local)) (length (now tags)) (length (now remote)) × (n ≤ length (now list)) × (length (now plain) ≡ s) × (length (now sum) ≡ s) × (length (now work) ≡ s) ⌝ }
     ensures { λ r. ⌜ surveyed (verdictBy (schemeOf (now (w .entry)) (now (powers .entry))) s (now (local .entry)) (now (tags .entry)) (now (remote .entry))) n (now (list .entry)) ≡ (counted r, now (list .exit)) ⌝ }
 {
     let mut counts = Counts {
@@ -177,7 +165,7 @@ fn survey_checked(
     remote: &[u8],
     list: &mut [u32],
 ) -> Counts
-    requires { ⌜ (length (now key) ≡ 32) × Room s n (length (now local)) (length (now tags)) (length (now remote)) (length (now list)) ⌝ }
+    requires { ⌜ (length (now key) ≡ 32) × Room s n (length (now local)) (length (now tags)) (length (now remote)) × (n ≤ length (now list)) ⌝ }
     ensures { λ r. ⌜ surveyed (verdictAt (mirror (C.key (now (key .entry)))) s (C.triple (now (local .entry)) (now (tags .entry)) (now (remote .entry)))) n (now (list .entry)) ≡ (counted r, now (list .exit)) ⌝ }
 {
     let t = aes::table();

@@ -3,7 +3,8 @@ use lib.ListN.{length}
 use Rattle.verdict.specs.Answers.{doneOption}
 use Rattle.verdict.specs.Judging.{key, triple}
 use Rattle.history.specs.Volume.{isShape}
-use Rattle.survey.proofs.Surveying.{has-room, survey-passes, survey-refused}
+use Rattle.images.proofs.Rooms.{has-room}
+use Rattle.survey.proofs.Surveying.{tests, survey-passes, survey-refused}
 use borrow.Author.Needs.{needs}
 use Rattle.survey.proofs.survey.Statement.{statement}
 use Rattle.survey.proofs.survey.Tie as tie
@@ -18,7 +19,9 @@ survey-checked-requires : tie.Need-survey-checked-requires
 unfolding isShape
 survey-checked-requires c κs =
     let a = c .before .before .before .before .before .before .before .before .before .args in
-    has-room (triple (a .local .now) (a .tags .now) (a .remote .now)) (key (a .key .now)) (a .s) (a .n) (length (a .list .now)) (c .before .before .before .check-survey .ensures ∙ ap doneOption (c .before .enum-told .given .1))
+    let t = tests (triple (a .local .now) (a .tags .now) (a .remote .now)) (key (a .key .now)) (a .s) (a .n) (length (a .list .now)) (c .before .before .before .check-survey .ensures ∙ ap doneOption (c .before .enum-told .given .1)) in
+    let (k, room) = has-room (triple (a .local .now) (a .tags .now) (a .remote .now)) (key (a .key .now)) (a .s) (a .n) (t .0) in
+    (k, room, t .1)
 
 enum-known-checked : tie.Need-enum-known-checked
 enum-known-checked c = search needs

@@ -40,8 +40,8 @@ slice-aggregate-survey-in-4 c = let z = c .before .before .before .before .befor
 survey-in-requires : tie.Need-survey-in-requires
 survey-in-requires c κs =
     let a = c .before .before .before .before .before .before .before .before .before .before .before .before .before .before .before .before .before .before .args in
-    let z = c .before .before .before .before .before .before .before .before .before .before .before .before .before .before .before .before .before .before .pre .1 in
-    (ready-of (a .key .now) _ (c .before .before .before .before .before .before .before .before .before .before .prepare .ensures) _ 0 (c .before .before .before .before .before .before .before .context .ensures) (c .before .before .before .before .before .before .before .before .before .before .before .before .table .ensures), z, simp length-take (omega arith), simp length-take (omega arith), simp length-take (omega arith))
+    let z = c .before .before .before .before .before .before .before .before .before .before .before .before .before .before .before .before .before .before .pre in
+    (ready-of (a .key .now) _ (c .before .before .before .before .before .before .before .before .before .before .prepare .ensures) _ 0 (c .before .before .before .before .before .before .before .context .ensures) (c .before .before .before .before .before .before .before .before .before .before .before .before .table .ensures), z .1, z .2, simp length-take (omega (arith, z .1)), simp length-take (omega (arith, z .1)), simp length-take (omega (arith, z .1)))
 
 same-length : tie.Need-same-length
 same-length c = search needs

@@ -4,7 +4,8 @@ use native.Mathlib.Omega.{arith}
 use lib.ListN.{length}
 use Rattle.verdict.specs.Judging.{schemeOf}
 use Rattle.survey.specs.Inner.{verdictBy}
-use Rattle.survey.proofs.Surveying.{Surveys, surveys-none, surveys-next, surveys-all, within-room}
+use Rattle.images.proofs.Rooms.{within-room}
+use Rattle.survey.proofs.Surveying.{Surveys, surveys-none, surveys-next, surveys-all}
 use Rattle.survey.proofs.survey_in.Statement.{statement}
 use Rattle.survey.proofs.survey_in.Tie as tie
 
@@ -20,14 +21,14 @@ loop-holds : tie.Need-loop-holds Inv-loop μ-loop
 loop-holds c =
     let a = c .before .before .before .before .before .before .before .before .args in
     let z = c .before .before .before .before .before .before .before .before .pre in
-    (omega arith, surveys-none (verdictBy (schemeOf (a .w .now) (a .powers .now)) (a .s) (a .local .now) (a .tags .now) (a .remote .now)) (a .list .now), z .2, z .3, z .4)
+    (omega arith, surveys-none (verdictBy (schemeOf (a .w .now) (a .powers .now)) (a .s) (a .local .now) (a .tags .now) (a .remote .now)) (a .list .now), z .3, z .4, z .5)
 
 judge-sector-requires : tie.Need-judge-sector-requires Inv-loop μ-loop
 judge-sector-requires c κs =
     let a = c .before .before .before .before .before .before .before .before .before .before .before .before .before .args in
     let z = c .before .before .before .before .before .before .before .before .before .before .before .before .before .pre in
     let l = c .before .before .before .before .loop in
-    (z .0, within-room (a .s) (a .n) (l .i) _ _ _ _ (z .1) (omega arith), l .inv .2, l .inv .3, l .inv .4)
+    (z .0, within-room (a .s) (a .n) (l .i) _ _ _ (z .1) (omega arith), l .inv .2, l .inv .3, l .inv .4)
 
 sub-at : tie.Need-sub-at Inv-loop μ-loop
 sub-at c = omega arith
@@ -35,6 +36,7 @@ sub-at c = omega arith
 list-number-requires : tie.Need-list-number-requires Inv-loop μ-loop
 list-number-requires c κs =
     let z = c .before .before .before .before .before .before .before .before .before .before .before .before .before .before .before .before .before .before .before .before .before .before .pre .1 in
+    let room = c .before .before .before .before .before .before .before .before .before .before .before .before .before .before .before .before .before .before .before .before .before .before .pre .2 in
     let v = c .before .before .before .before .before .before .before .before .before .before .before .before .before .loop .inv .1 in
     (omega arith, omega arith)
 
@@ -53,7 +55,7 @@ loop-less c = omega arith
 loop-again : tie.Need-loop-again Inv-loop μ-loop
 loop-again c =
     let a = c .before .before .before .before .before .before .before .before .before .before .before .before .before .before .before .before .before .before .before .before .before .before .before .before .before .before .args in
-    let z = c .before .before .before .before .before .before .before .before .before .before .before .before .before .before .before .before .before .before .before .before .before .before .before .before .before .before .pre .1 in
+    let room = c .before .before .before .before .before .before .before .before .before .before .before .before .before .before .before .before .before .before .before .before .before .before .before .before .before .before .pre .2 in
     let l = c .before .before .before .before .before .before .before .before .before .before .before .before .before .before .before .before .before .loop in
     let j = c .before .before .before .before .before .before .before .before .before .before .before .before .judge-sector in
     let lt : l .i < a .n = omega (arith, c .before .before .before .before .before .before .before .before .before .before .before .before .before .before .before .before) in (
@@ -74,13 +76,13 @@ same-length : tie.Need-same-length Inv-loop μ-loop
 same-length c = c .before .before .loop .inv .1 .size
 
 same-length-2 : tie.Need-same-length-2 Inv-loop μ-loop
-same-length-2 c = c .before .before .loop .inv .2 ∙ sym (c .before .before .before .before .before .before .before .before .before .before .before .pre .2)
+same-length-2 c = c .before .before .loop .inv .2 ∙ sym (c .before .before .before .before .before .before .before .before .before .before .before .pre .3)
 
 same-length-3 : tie.Need-same-length-3 Inv-loop μ-loop
-same-length-3 c = c .before .before .loop .inv .3 ∙ sym (c .before .before .before .before .before .before .before .before .before .before .before .pre .3)
+same-length-3 c = c .before .before .loop .inv .3 ∙ sym (c .before .before .before .before .before .before .before .before .before .before .before .pre .4)
 
 same-length-4 : tie.Need-same-length-4 Inv-loop μ-loop
-same-length-4 c = c .before .before .loop .inv .4 ∙ sym (c .before .before .before .before .before .before .before .before .before .before .before .pre .4)
+same-length-4 c = c .before .before .loop .inv .4 ∙ sym (c .before .before .before .before .before .before .before .before .before .before .before .pre .5)
 
 returns : tie.Need-returns Inv-loop μ-loop
 returns c =
