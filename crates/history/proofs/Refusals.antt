@@ -23,11 +23,11 @@ use Rattle.verdict.proofs.Rules.{cond-none, only-rule, first-none, first-some, 
 -- ---- lists of rules
 
 -- no rule holds
-abbrev pub NoneHolds : List Rule → Type 0
+abbrev NoneHolds : List Rule → Type 0
 NoneHolds [] = Unit {0}
 NoneHolds (r ∷ rs) = (r .condition ≡ false) × NoneHolds rs
 
-pub none-holds : (rs : List Rule) → firstOf rs ≡ none → NoneHolds rs
+none-holds : (rs : List Rule) → firstOf rs ≡ none → NoneHolds rs
 none-holds [] e = tt
 none-holds (r ∷ rs) e = let u = cond-none (r .condition) (r .number) (firstOf rs) e in (u .0, none-holds rs (u .1))
 
@@ -44,7 +44,7 @@ pub record Common (v : Triple) (k : Key) (s n : ℕ) : Type 0 where
   pub size : isSize s ≡ true
   pub shape : isShape s n v ≡ true
 
--- then what a call on one sector does.
+-- then what a call on one sector checks besides.
 pub record Passed (v : Triple) (a : Args) (c : Call) : Type 0 where
   pub common : Common v (a .key) (a .size) (a .count)
   pub number : a .number < a .count
@@ -58,13 +58,13 @@ common v k s n e =
 pub passed : (v : Triple) (a : Args) (c : Call) → firstOf (early v a c) ≡ none → Passed v a c
 unfolding early
 passed v a c e =
-    let first : List Rule = volumeRules (a .key) (a .size) (isShape (a .size) (a .count) v) in
+    let every : List Rule = volumeRules (a .key) (a .size) (isShape (a .size) (a .count) v) in
     let nine : List Rule = rule 9 (leb (a .count) (a .number)) ∷ [] in
-    let e′ : firstOf (first ++ nine) ≡ none = none-left (lengths a c) (first ++ nine) e in
+    let e′ : firstOf (every ++ nine) ≡ none = none-left (lengths a c) (every ++ nine) e in
     record {
-      common = common v (a .key) (a .size) (a .count) (none-left nine first e′);
-      number = leb-false (a .count) (a .number) (only-rule (leb (a .count) (a .number)) 9 (none-right nine first e′));
-      lengths = none-right (lengths a c) (first ++ nine) e;
+      common = common v (a .key) (a .size) (a .count) (none-left nine every e′);
+      number = leb-false (a .count) (a .number) (only-rule (leb (a .count) (a .number)) 9 (none-right nine every e′));
+      lengths = none-right (lengths a c) (every ++ nine) e;
     }
 
 pub passes-early : (v : Triple) (a : Args) (c : Call) → Passed v a c → firstOf (early v a c) ≡ none

@@ -14,8 +14,9 @@ use Rattle.history.specs.Answers.{Answer, refused, reply, isWhole, isDoubtful, 
 use Rattle.history.specs.History.{Proper, Found, Promise, Promised, AnyBytes}
 use Rattle.history.specs.Machine.{Event, Held, gone, kept, start, Volume, AllAllowed, run, hold}
 use Rattle.survey.specs.Survey.{tally, isKept, Accepted, verdicts, SurveyFacts}
-use Rattle.history.specs.Volume.{Args, args, read, lengthRules, mirror}
+use Rattle.history.specs.Volume.{Args, read, lengthRules, mirror}
 use Rattle.history.proofs.Demand3.{demand-3}
+use Rattle.history.proofs.Events.{argsOf}
 use Rattle.history.proofs.Refusals.{passes-early, answer-late}
 use Rattle.survey.proofs.Surveying.{tests, survey-passes}
 use Rattle.survey.proofs.Tallies.{all-counted, apart, in-list, list-rises, health-most, health-full}
@@ -41,7 +42,7 @@ same-length s = simp (eq-eqb s s refl)
 
 module _ (vol : Volume) (v : Triple) (room : ℕ) (accepted : Accepted vol v room) (i : ℕ) (lt : i < vol .count) where
   abbrev a : Args
-  a = args (vol .key) (vol .size) (vol .count) i
+  a = argsOf vol i
 
   -- where a survey is not refused, a read of each sector is proper
   proper : Proper vol v i a (read (vol .size))

@@ -199,9 +199,9 @@ survey-keyed k r e s n l g x list = ap (λ (S : Scheme). surveyed (verdictBy S s
 -- what passing them shows
 pub tests : (v : Triple) (k : Key) (s n room : ℕ) → firstOf (surveyRules k s n (isShape s n v) room) ≡ none → Common v k s n × (n ≤ room)
 tests v k s n room e =
-    let first : List Rule = volumeRules k s (isShape s n v) in
+    let every : List Rule = volumeRules k s (isShape s n v) in
     let eleven : List Rule = rule 11 (ltb room n) ∷ [] in
-    (common v k s n (none-left eleven first e), ltb-false room n (only-rule (ltb room n) 11 (none-right eleven first e)))
+    (common v k s n (none-left eleven every e), ltb-false room n (only-rule (ltb room n) 11 (none-right eleven every e)))
 
 module _ (v : Triple) (k : Key) (s n : ℕ) (list : List ℕ) where
   abbrev rules : List Rule
