@@ -8,7 +8,7 @@ use native.Mathlib.Decide.{ℕ-discrete}
 use borrow.Author.Tests.{eq-eqb, ne-eqb}
 use Rattle.mode.specs.Sealing.{Triple, Key}
 use Rattle.mode.specs.Scheme.{Place, Scheme, Sound}
-use Rattle.history.specs.Volume.{sectorOf, write, Args, Call, sector, sealing, refusal}
+use Rattle.history.specs.Volume.{sectorOf, write, Args, args, Call, sector, sealing, refusal}
 use Rattle.history.specs.Machine.{Fate, Event, call, damage, called, turned, told, Held, step, hurt, State, put, machine, Volume, Takes, Images, Lent, Cuts, leavesCall, leaves, seen, Allowed, AllAllowed, run, hold}
 use Rattle.history.specs.History.{at, own, Agree, AnyBytes, Agrees}
 use Rattle.history.proofs.Refusals.{accepted-passed}
@@ -27,11 +27,11 @@ put-other i x h j n = ap (λ (u : Bool). cond u x (h j)) (ne-eqb j i n)
 
 -- ---- arguments
 
--- those of a, with the volume's key, s and n and the number i
-abbrev pub args : Volume → Args → ℕ → Args
-args vol a i = record { key = vol .key; size = vol .size; count = vol .count; number = i }
+-- the volume's key, s and n, and the number i
+abbrev pub argsOf : Volume → ℕ → Args
+argsOf vol i = args (vol .key) (vol .size) (vol .count) i
 
-pub takes-args : (vol : Volume) (a : Args) → Takes vol a → a ≡ args vol a (a .number)
+pub takes-args : (vol : Volume) (a : Args) → Takes vol a → a ≡ argsOf vol (a .number)
 takes-args vol a k = λ j. record { key = k .key j; size = k .size j; count = k .count j; number = a .number }
 
 -- ---- calls
@@ -59,21 +59,21 @@ module _ (seals : Key → Scheme) (sound : Sound seals) (vol : Volume) where
           subst (λ (y : Held). Agree (vol .size) (own seals vol) j (at vol w j) y) (sym (put-other i x h j n))
           (subst (λ (t : Triple). Agree (vol .size) (own seals vol) j t (h j)) (sym (others j n)) (g .agree j lt))
 
-  accepted-step : (v : Triple) (h : State) → Agrees seals vol v h → (a : Args) (i : ℕ) (c : Call) (f : Fate) → refusal seals v (args vol a i) c ≡ none → Lent c → Cuts (vol .size) f
-      → Agrees seals vol (leavesCall seals v (args vol a i) c f) (machine h (seen seals vol v (call (args vol a i) c f)))
-  accepted-step v h g a i c f e l k =
+  accepted-step : (v : Triple) (h : State) → Agrees seals vol v h → (i : ℕ) (c : Call) (f : Fate) → refusal seals v (argsOf vol i) c ≡ none → Lent c → Cuts (vol .size) f
+      → Agrees seals vol (leavesCall seals v (argsOf vol i) c f) (machine h (seen seals vol v (call (argsOf vol i) c f)))
+  accepted-step v h g i c f e l k =
       let b : AnyBytes v = any-bytes (vol .size) (vol .count) v (g .images) in
-      let z = left seals sound v b (args vol a i) c f l k e in
-      let lt : i < vol .count = accepted-passed seals v (args vol a i) c e .common .number in
-      subst (λ (y : State). Agrees seals vol (leavesCall seals v (args vol a i) c f) y) (sym (machine-accepted seals vol v h (args vol a i) c f e))
-      (agrees-put v (leavesCall seals v (args vol a i) c f) h i _ g (z .images)
-      (held-after seals sound v b (args vol a i) c f l k e (h i) (g .agree i lt)) (z .others))
+      let z = left seals sound v b (argsOf vol i) c f l k e in
+      let lt : i < vol .count = accepted-passed seals v (argsOf vol i) c e .number in
+      subst (λ (y : State). Agrees seals vol (leavesCall seals v (argsOf vol i) c f) y) (sym (machine-accepted seals vol v h (argsOf vol i) c f e))
+      (agrees-put v (leavesCall seals v (argsOf vol i) c f) h i _ g (z .images)
+      (held-after seals sound v b (argsOf vol i) c f l k e (h i) (g .agree i lt)) (z .others))
 
   call-step : (v : Triple) (h : State) → Agrees seals vol v h → (a : Args) (c : Call) (f : Fate) → Allowed seals vol v (call a c f) → (r : Option ℕ) → refusal seals v a c ≡ r
       → Agrees seals vol (leavesCall seals v a c f) (machine h (seen seals vol v (call a c f)))
   call-step v h g a c f m none e =
       subst (λ (b : Args). refusal seals v b c ≡ none → Agrees seals vol (leavesCall seals v b c f) (machine h (seen seals vol v (call b c f))))
-      (sym (takes-args vol a (m .0 e))) (λ z. accepted-step v h g a (a .number) c f z (m .1) (m .2)) e
+      (sym (takes-args vol a (m .0 e))) (λ z. accepted-step v h g (a .number) c f z (m .1) (m .2)) e
   call-step v h g a c f m (some k) e =
       subst (λ (w : Triple). Agrees seals vol w (machine h (seen seals vol v (call a c f)))) (sym (leaves-refused seals v a c f k e))
       (subst (λ (y : State). Agrees seals vol v y) (sym (machine-refused seals vol v h a c f k e)) g)

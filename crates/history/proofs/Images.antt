@@ -14,7 +14,7 @@ use Rattle.history.specs.Machine.{Fate, finished, lands, Held, step, tol
 use Rattle.history.specs.History.{Agree, AnyBytes}
 use Rattle.block.proofs.Parts.{bytes-part, bytes-patch, length-part, length-patch, part-patch, part-other}
 use Rattle.verdict.proofs.JudgeExact.{same-place, judge-means}
-use Rattle.history.proofs.Refusals.{Common, refusal-none, accepted-passed, accepted-images, sized}
+use Rattle.history.proofs.Refusals.{Common, Passed, refusal-none, accepted-passed, accepted-images, sized}
 use Rattle.history.proofs.Sector.{on-store, on-store-other, storeAll, sectorAfter, AllPlain, writes-plain, keeps}
 
 -- ---- writing to a sector
@@ -145,29 +145,29 @@ module _ (seals : Key → Scheme) (v : Triple) (a : Args) (c : Call) (f : Fate) 
 
 module _ (seals : Key → Scheme) (sound : Sound seals) where
   -- a call that passes the early checks has a lawful sealing
-  pub passed-lawful : (v : Triple) (a : Args) → Common v a → Lawful (a .size) (sealing seals a)
+  pub passed-lawful : (v : Triple) (a : Args) → Common v (a .key) (a .size) (a .count) → Lawful (a .size) (sealing seals a)
   passed-lawful v a p = sound .lawful (a .key) (a .size) (p .key) (p .size)
 
   module _ (v : Triple) (b : AnyBytes v) (a : Args) (c : Call) (f : Fate) (lent : Lent c) (cuts : Cuts (a .size) f) (e : refusal seals v a c ≡ none) where
-    common : Common v a
-    common = accepted-passed seals v a c e .common
+    passed : Passed v a c
+    passed = accepted-passed seals v a c e
 
     before : Images (a .size) (a .count) v
     before = accepted-images seals v a c b e
 
     here : Sector (a .size) (sector v a)
-    here = sector-images (a .size) (a .count) (a .number) (common .number) v before
+    here = sector-images (a .size) (a .count) (a .number) (passed .number) v before
 
     pub left : Left seals v a c f (leavesCall seals v a c f)
     left =
         let b : Place → List ℕ = lands f (sealing seals a .sealed (a .number) (writes (a .size) (sealing seals a) (a .number) (sector v a) c .plain)) (sector v a) in
         let ps : List Place = writes (a .size) (sealing seals a) (a .number) (sector v a) c .places in
-        let pl : AllPlain (a .size) b ps = writes-plain (a .size) (sealing seals a) (passed-lawful v a common) (a .number) (sector v a) here c f cuts (sized a c (accepted-passed seals v a c e .lengths) lent) in
+        let pl : AllPlain (a .size) b ps = writes-plain (a .size) (sealing seals a) (passed-lawful v a (passed .common)) (a .number) (sector v a) here c f cuts (sized a c (passed .lengths) lent) in
         let q : leavesCall seals v a c f ≡ accepted seals v a c f = leaves-accepted seals v a c f e in
         record {
-          images = subst (λ (u : Triple). Images (a .size) (a .count) u) (sym q) (images-all (a .size) (a .count) (a .number) (common .number) b ps pl v before);
-          mine = ap (λ (u : Triple). sector u a) q ∙ sector-all (a .size) (a .count) (a .number) (common .number) b ps pl v before;
-          others = λ j n. ap (sectorOf (a .size) j) q ∙ others-all (a .size) (a .count) (a .number) (common .number) b ps pl v before j n;
+          images = subst (λ (u : Triple). Images (a .size) (a .count) u) (sym q) (images-all (a .size) (a .count) (a .number) (passed .number) b ps pl v before);
+          mine = ap (λ (u : Triple). sector u a) q ∙ sector-all (a .size) (a .count) (a .number) (passed .number) b ps pl v before;
+          others = λ j n. ap (sectorOf (a .size) j) q ∙ others-all (a .size) (a .count) (a .number) (passed .number) b ps pl v before j n;
         }
 
     -- what was held of the sector, and agreed with its places, agrees with them after the machine's step
@@ -175,12 +175,12 @@ module _ (seals : Key → Scheme) (sound : Sound seals) where
         → Agree (a .size) (sealing seals a) (a .number) (sector (leavesCall seals v a c f) a) (step (a .size) c (told (sealing seals a) (a .number) (sector (leavesCall seals v a c f) a) c f) x)
     held-after x g =
         subst (λ (u : Triple). Agree (a .size) (sealing seals a) (a .number) u (step (a .size) c (told (sealing seals a) (a .number) u c f) x)) (sym (left .mine))
-        (keeps (a .size) (sealing seals a) (passed-lawful v a common) (a .number) (sector v a) here c f x
-        (sized a c (accepted-passed seals v a c e .lengths) lent) (refusal-none seals v a c e .1) g)
+        (keeps (a .size) (sealing seals a) (passed-lawful v a (passed .common)) (a .number) (sector v a) here c f x
+        (sized a c (passed .lengths) lent) (refusal-none seals v a c e .1) g)
 
     -- the verdict before it is the document's
     pub means-before : Means (a .size) (sealing seals a) (a .number) (sector v a) (judge (sealing seals a) (a .number) (sector v a))
-    means-before = judge-means (a .size) (sealing seals a) (passed-lawful v a common) (a .number) (sector v a) here
+    means-before = judge-means (a .size) (sealing seals a) (passed-lawful v a (passed .common)) (a .number) (sector v a) here
 
   -- an accepted first stage, finished, leaves a local place that its plaintext fits
   pub first-landed : (v : Triple) → AnyBytes v → (a : Args) (P : List ℕ) → Bytes P → refusal seals v a (first P) ≡ none → Fits (sealing seals a) (a .number) (sector (leavesCall seals v a (first P) finished) a) local P

@@ -20,7 +20,7 @@ use Rattle.verdict.proofs.JudgeExact.{one-for-all, judge-means}
 use Rattle.history.proofs.Refusals.{passed, refusal-late, answer-late}
 use Rattle.history.proofs.Sector.{some-inj, agree-two, agree-doubtful, judge-sure, whole-accepted}
 use Rattle.history.proofs.Images.{any-bytes, sector-images, passed-lawful, first-landed}
-use Rattle.history.proofs.Events.{args, takes-args, call-others}
+use Rattle.history.proofs.Events.{argsOf, takes-args, call-others}
 
 -- ---- answers
 
@@ -72,11 +72,11 @@ mend-7 clashing e = refl
 -- ---- proper calls
 
 module _ (seals : Key → Scheme) (vol : Volume) (v : Triple) (i : ℕ) (a : Args) where
-  proper-args : (c : Call) → Proper vol v i a c → a ≡ args vol a i
-  proper-args c p = takes-args vol a (p .takes) ∙ ap (args vol a) (p .names)
+  proper-args : (c : Call) → Proper vol v i a c → a ≡ argsOf vol i
+  proper-args c p = takes-args vol a (p .takes) ∙ ap (argsOf vol) (p .names)
 
   proper-lt : (c : Call) → Proper vol v i a c → i < vol .count
-  proper-lt c p = subst (λ (b : Args). b .number < b .count) (proper-args c p) (passed v a c (p .passes) .common .number)
+  proper-lt c p = subst (λ (b : Args). b .number < b .count) (proper-args c p) (passed v a c (p .passes) .number)
 
   -- only the last refusals can turn it away
   pub proper-refusal : (c : Call) → Proper vol v i a c → refusal seals v a c ≡ firstOf (late (own seals vol) i (at vol v i) c)

@@ -14,7 +14,7 @@ use Rattle.mode.specs.Sealing.{Triple, Key}
 use Rattle.mode.specs.Scheme.{Place, local, tag, remote, on, wide, isKey, isSize, Scheme}
 use Rattle.verdict.specs.Answers.{Rule, rule, firstOf}
 use Rattle.history.specs.Answers.{refused, reply}
-use Rattle.history.specs.Volume.{Args, Call, blank, first, second, third, mend, read, shape, isShape, checks, lengths, early, late, result, sector, sealing, refusal, answer}
+use Rattle.history.specs.Volume.{Args, Call, blank, first, second, third, mend, read, shape, isShape, volumeRules, sectorRules, lengths, early, late, result, sector, sealing, refusal, answer}
 use Rattle.history.specs.Machine.{Images, Lent}
 use Rattle.history.specs.History.{AnyBytes}
 use Rattle.block.proofs.Lists.{and-left, and-right}
@@ -23,11 +23,11 @@ use Rattle.verdict.proofs.Rules.{cond-none, only-rule, first-none, first-some, 
 -- ---- lists of rules
 
 -- no rule holds
-abbrev pub NoneHolds : List Rule → Type 0
+abbrev NoneHolds : List Rule → Type 0
 NoneHolds [] = Unit {0}
 NoneHolds (r ∷ rs) = (r .condition ≡ false) × NoneHolds rs
 
-pub none-holds : (rs : List Rule) → firstOf rs ≡ none → NoneHolds rs
+none-holds : (rs : List Rule) → firstOf rs ≡ none → NoneHolds rs
 none-holds [] e = tt
 none-holds (r ∷ rs) e = let u = cond-none (r .condition) (r .number) (firstOf rs) e in (u .0, none-holds rs (u .1))
 
@@ -37,40 +37,42 @@ holds-none (r ∷ rs) h = ap (λ (b : Bool). cond b (some (r .number)) (firstOf 
 
 -- ---- early refusals
 
--- What passing them shows. Other proofs go by these facts: only `passed` and `passes-early` read the list of rules. First what every call
--- checks,
-pub record Common (v : Triple) (a : Args) : Type 0 where
-  pub key : isKey (a .key) ≡ true
-  pub size : isSize (a .size) ≡ true
-  pub shape : isShape (a .size) (a .count) v ≡ true
-  pub number : a .number < a .count
+-- What passing them shows. Other proofs go by these facts: only `common`, `passed` and `passes-early` read the lists of rules. First what
+-- every call checks,
+pub record Common (v : Triple) (k : Key) (s n : ℕ) : Type 0 where
+  pub key : isKey k ≡ true
+  pub size : isSize s ≡ true
+  pub shape : isShape s n v ≡ true
 
--- then what depends on the kind of call.
+-- then what a call on one sector checks besides.
 pub record Passed (v : Triple) (a : Args) (c : Call) : Type 0 where
-  pub common : Common v a
+  pub common : Common v (a .key) (a .size) (a .count)
+  pub number : a .number < a .count
   pub lengths : firstOf (lengths a c) ≡ none
+
+pub common : (v : Triple) (k : Key) (s n : ℕ) → firstOf (volumeRules k s (isShape s n v)) ≡ none → Common v k s n
+common v k s n e =
+    let (a, (b, (c, z))) = none-holds (volumeRules k s (isShape s n v)) e in
+    record { key = not-false (isKey k) a; size = not-false (isSize s) b; shape = not-false (isShape s n v) c }
 
 pub passed : (v : Triple) (a : Args) (c : Call) → firstOf (early v a c) ≡ none → Passed v a c
 unfolding early
 passed v a c e =
-    let rules : List Rule = checks (isShape (a .size) (a .count) v) a c in
-    let (k, (s, (r, (n, z)))) = none-holds rules (none-left (lengths a c) rules e) in
+    let every : List Rule = volumeRules (a .key) (a .size) (isShape (a .size) (a .count) v) in
+    let nine : List Rule = rule 9 (leb (a .count) (a .number)) ∷ [] in
+    let e′ : firstOf (every ++ nine) ≡ none = none-left (lengths a c) (every ++ nine) e in
     record {
-      common = record {
-        key = not-false (isKey (a .key)) k;
-        size = not-false (isSize (a .size)) s;
-        shape = not-false (isShape (a .size) (a .count) v) r;
-        number = leb-false (a .count) (a .number) n;
-      };
-      lengths = none-right (lengths a c) rules e;
+      common = common v (a .key) (a .size) (a .count) (none-left nine every e′);
+      number = leb-false (a .count) (a .number) (only-rule (leb (a .count) (a .number)) 9 (none-right nine every e′));
+      lengths = none-right (lengths a c) (every ++ nine) e;
     }
 
 pub passes-early : (v : Triple) (a : Args) (c : Call) → Passed v a c → firstOf (early v a c) ≡ none
 unfolding early
 passes-early v a c p =
     let o = p .common in
-    first-none (lengths a c) (checks (isShape (a .size) (a .count) v) a c)
-    (holds-none (checks (isShape (a .size) (a .count) v) a c) (ap not (o .key), (ap not (o .size), (ap not (o .shape), (lt-leb (a .count) (a .number) (o .number), tt)))))
+    first-none (lengths a c) (sectorRules (isShape (a .size) (a .count) v) a)
+    (holds-none (sectorRules (isShape (a .size) (a .count) v) a) (ap not (o .key), (ap not (o .size), (ap not (o .shape), (lt-leb (a .count) (a .number) (p .number), tt)))))
     ∙ p .lengths
 
 -- a stage's plaintext is s bytes
@@ -111,6 +113,10 @@ shape-facts s n v e = (leb-true 1 n (and-left (leb 1 n) _ e), go)
         eqb-true (length (v .remote)) (n * s)
         (and-left (eqb (length (v .remote)) (n * s)) _ (and-right (eqb (length (v .local)) (n * s)) _ lengths-hold))
 
+pub count-le : (s n : ℕ) (v : Triple) → isShape s n v ≡ true → n ≤ 65536
+unfolding isShape shape
+count-le s n v e = leb-true n 65536 (and-left (leb n 65536) _ (and-right (leb 1 n) _ e))
+
 pub shape-images : (s n : ℕ) (v : Triple) → isShape s n v ≡ true → AnyBytes v → Images s n v
 shape-images s n v e b = record { images = λ p. record { long = shape-facts s n v e .1 p; bytes = b p } }
 
@@ -126,7 +132,7 @@ shape-same s n s′ n′ v w I J =
 -- so images of the same lengths have the same early refusals
 pub early-same : (s n : ℕ) (v w : Triple) → Images s n v → Images s n w → (a : Args) (c : Call) → early v a c ≡ early w a c
 unfolding early
-early-same s n v w I J a c = ap (λ (b : Bool). checks b a c ++ lengths a c) (shape-same s n (a .size) (a .count) v w I J)
+early-same s n v w I J a c = ap (λ (b : Bool). sectorRules b a ++ lengths a c) (shape-same s n (a .size) (a .count) v w I J)
 
 -- The images force s and n: of the calls that are not refused, only the key could be another than the volume's.
 pub forced : (s n : ℕ) (v : Triple) → Images s n v → (s′ n′ : ℕ) → isShape s′ n′ v ≡ true → (s′ ≡ s) × (n′ ≡ n)

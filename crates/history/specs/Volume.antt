@@ -43,6 +43,9 @@ pub record Args : Type 0 where
   pub count : ℕ
   pub number : ℕ
 
+abbrev pub args : Key → ℕ → ℕ → ℕ → Args
+args k s n i = record { key = k; size = s; count = n; number = i }
+
 -- the calls on one sector, with what else they take: a stage its plaintext, a read the length of its output
 pub data Call : Type 0 where
   blank : Call
@@ -60,13 +63,13 @@ unfoldable pub isShape : ℕ → ℕ → Triple → Bool
 unfolding shape
 isShape s n v = shape s n (length (v .local)) (length (v .tag)) (length (v .remote))
 
--- refusals 2, 8 and 9; `right` says whether n and the images have the right shape
-abbrev pub shapeRules : ℕ → ℕ → ℕ → Bool → List Rule
-shapeRules s n i right = rule 2 (not (isSize s)) ∷ rule 8 (not right) ∷ rule 9 (leb n i) ∷ []
+-- refusals 1, 2 and 8, of every call; `right` says whether n and the images have the right shape
+abbrev pub volumeRules : Key → ℕ → Bool → List Rule
+volumeRules k s right = keyRules k ++ rule 2 (not (isSize s)) ∷ rule 8 (not right) ∷ []
 
--- refusals 1, 2, 8 and 9
-abbrev pub checks : Bool → Args → Call → List Rule
-checks right a c = keyRules (a .key) ++ shapeRules (a .size) (a .count) (a .number) right
+-- and then 9, of a call on one sector
+abbrev pub sectorRules : Bool → Args → List Rule
+sectorRules right a = volumeRules (a .key) (a .size) right ++ rule 9 (leb (a .count) (a .number)) ∷ []
 
 -- refusal 3: a plaintext or an output of p bytes that is not s bytes
 abbrev pub lengthRules : ℕ → ℕ → List Rule
@@ -82,7 +85,7 @@ lengths a (read o) = lengthRules o (a .size)
 
 -- all that comes before 6 (read, mend) or 10 (a stage)
 unfoldable pub early : Triple → Args → Call → List Rule
-early v a c = checks (isShape (a .size) (a .count) v) a c ++ lengths a c
+early v a c = sectorRules (isShape (a .size) (a .count) v) a ++ lengths a c
 
 -- the last refusals, of the three places t of sector i
 abbrev pub late : Scheme → ℕ → Triple → Call → List Rule

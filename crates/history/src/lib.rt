@@ -5,12 +5,12 @@ use verdict::Refusal;
 ghost use mathlib.Core.Path.{_≡_};
 ghost use mathlib.Core.List.{_++_};
 ghost use Prim.Native.Nat.{_≤_};
-ghost use Rattle.verdict.specs.Answers.{firstOf, doneOption, keyRules};
+ghost use Rattle.verdict.specs.Answers.{firstOf, doneOption};
 ghost use Rattle.verdict.specs.Judging as C;
 ghost use Rattle.history.specs.Volume as W;
 
 // Whether n is a count and images of l, g and r bytes are those of n sectors of s bytes.
-pub fn fits_shape(s: usize, n: usize, l: usize, g: usize, r: usize) -> bool
+fn fits_shape(s: usize, n: usize, l: usize, g: usize, r: usize) -> bool
     requires { ⌜ s ≤ 4096 ⌝ }
     ensures { λ b. ⌜ b ≡ W.shape s n l g r ⌝ }
 {
@@ -29,29 +29,36 @@ pub fn fits_shape(s: usize, n: usize, l: usize, g: usize, r: usize) -> bool
     g == n * 16
 }
 
-// Refusals 2, 8 and 9.
-fn check_shape(s: usize, n: usize, i: usize, l: usize, g: usize, r: usize) -> Done
-    ensures { λ d. ⌜ firstOf (W.shapeRules s n i (W.shape s n l g r)) ≡ doneOption d ⌝ }
-{
-    if verdict::is_size(s) {
-        if fits_shape(s, n, l, g, r) {
-            if i < n {
-                return Done::Done;
-            }
-            return Done::Refused(Refusal::SectorNumber);
-        }
-        return Done::Refused(Refusal::VolumeShape);
-    }
-    Done::Refused(Refusal::SectorSize)
-}
-
-// Refusals 1, 2, 8 and 9 of a call on sector i.
-pub fn check(key: &[u8], s: usize, n: usize, i: usize, l: usize, g: usize, r: usize) -> Done
-    ensures { λ d. ⌜ firstOf (keyRules (C.key (now (key .entry))) ++ W.shapeRules s n i (W.shape s n l g r)) ≡ doneOption d ⌝ }
+// Refusals 1, 2 and 8, of every call on a volume.
+pub fn check_volume(key: &[u8], s: usize, n: usize, l: usize, g: usize, r: usize) -> Done
+    ensures { λ d. ⌜ firstOf (W.volumeRules (C.key (now (key .entry))) s (W.shape s n l g r)) ≡ doneOption d ⌝ }
 {
     let keyed = verdict::check_key(key);
     match keyed {
-        Done::Done => check_shape(s, n, i, l, g, r),
+        Done::Done => if verdict::is_size(s) {
+            if fits_shape(s, n, l, g, r) {
+                Done::Done
+            } else {
+                Done::Refused(Refusal::VolumeShape)
+            }
+        } else {
+            Done::Refused(Refusal::SectorSize)
+        },
+        Done::Refused(f) => Done::Refused(f),
+    }
+}
+
+// These, and 9 of a call on sector i.
+pub fn check(key: &[u8], s: usize, n: usize, i: usize, l: usize, g: usize, r: usize) -> Done
+    ensures { λ d. ⌜ firstOf (W.sectorRules (W.shape s n l g r) (W.args (C.key (now (key .entry))) s n i)) ≡ doneOption d ⌝ }
+{
+    let checked = check_volume(key, s, n, l, g, r);
+    match checked {
+        Done::Done => if i < n {
+            Done::Done
+        } else {
+            Done::Refused(Refusal::SectorNumber)
+        },
         Done::Refused(f) => Done::Refused(f),
     }
 }
@@ -67,7 +74,7 @@ pub fn check_with(
     r: usize,
     p: usize,
 ) -> Done
-    ensures { λ d. ⌜ firstOf ((keyRules (C.key (now (key .entry))) ++ W.shapeRules s n i (W.shape s n l g r)) ++ W.lengthRules p s) ≡ doneOption d ⌝ }
+    ensures { λ d. ⌜ firstOf (W.sectorRules (W.shape s n l g r) (W.args (C.key (now (key .entry))) s n i) ++ W.lengthRules p s) ≡ doneOption d ⌝ }
 {
     let checked = check(key, s, n, i, l, g, r);
     match checked {

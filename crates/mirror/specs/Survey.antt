@@ -1,8 +1,8 @@
 -- The survey's answer as the C interface gives it. Assumes nothing: these are definitions.
 use mathlib.Core.List.{List, [], _∷_}
 use Prim.Native.Nat.{ℕ}
-use Rattle.volume.specs.declared.Counts.{Counts}
-use Rattle.volume.specs.Survey.{Report, refused, counted}
+use Rattle.survey.specs.declared.Counts.{Counts}
+use Rattle.survey.specs.Survey.{Report, refused, counted}
 
 abbrev pub numbers : Counts → List ℕ
 numbers c = c .whole ∷ c .doubtful ∷ c .clashing ∷ c .lost ∷ c .health ∷ []

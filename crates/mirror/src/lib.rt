@@ -1,18 +1,17 @@
 // The C interface. Each function's contract is that of the call that it names, with the answer as document 01's number: 0 for whole or done,
 // 81, 82 or 83 (hexadecimal) for doubt at local, tag or remote, or the refusal.
+use survey::Counts;
+use survey::Surveyed;
 use verdict::Done;
 use verdict::Judged;
-use volume::Counts;
-use volume::Surveyed;
 ghost use mathlib.Core.Path.{_≡_};
 ghost use Rattle.verdict.specs.Answers.{doneNumber, judgedNumber};
 ghost use Rattle.verdict.specs.Judging.{key, triple};
 ghost use Rattle.sector.specs.Calls.{sealCall, judgeCall, openCall, rebuildCall, combineCall};
 ghost use Rattle.verdict.specs.Judging as C;
-ghost use Rattle.volume.specs.Lent.{args};
-ghost use Rattle.history.specs.Volume.{outcome, readOutcome};
+ghost use Rattle.history.specs.Volume.{args, outcome, readOutcome};
 ghost use Rattle.history.specs.Volume as W;
-ghost use Rattle.volume.specs.Survey.{surveyOutcome};
+ghost use Rattle.survey.specs.Survey.{surveyOutcome};
 ghost use Rattle.mirror.specs.Survey.{numbers, surveyResult};
 
 fn done_number(d: Done) -> u32
@@ -210,7 +209,7 @@ pub extern "C" fn mirror_survey(
 ) -> u32
     ensures { λ r. ⌜ surveyResult (surveyOutcome (triple (now (local .entry)) (now (tags .entry)) (now (remote .entry))) (C.key (now (key .entry))) s n (now (list .entry))) (now (counts .entry)) ≡ (r, (now (counts .exit), now (list .exit))) ⌝ }
 {
-    let surveyed = volume::survey(key, s, n, local, tags, remote, list);
+    let surveyed = survey::survey(key, s, n, local, tags, remote, list);
     match surveyed {
         Surveyed::Counted(c) => {
             *counts = count_numbers(c);

@@ -6,3 +6,4 @@ pub mod Sides
 pub mod Judging
 pub mod Opened
 pub mod Prepared
+pub mod Numbers

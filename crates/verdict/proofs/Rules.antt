@@ -5,7 +5,10 @@ use mathlib.Core.List.{List, [], _∷_, _++_}
 use mathlib.Core.Option.{Option, none, some}
 use Prim.Native.Nat.{ℕ}
 use native.Mathlib.Omega.{arith}
-use Rattle.verdict.specs.Answers.{Rule, firstOf}
+use Rattle.verdict.specs.declared.Refusal.{Refusal}
+use Rattle.verdict.specs.declared.Done.{Done}
+use Rattle.verdict.specs.declared.Done.the-variants as D
+use Rattle.verdict.specs.Answers.{Rule, firstOf, refusalNumber, doneOption}
 
 -- ---- one rule
 
@@ -44,3 +47,11 @@ module _ (ys : List Rule) where
 
   pub none-right : (xs : List Rule) → firstOf (xs ++ ys) ≡ none → firstOf ys ≡ none
   none-right xs e = sym (first-none xs (none-left xs e)) ∙ e
+
+  -- ---- a check of the first list, with what it answers
+
+  pub check-passed : (xs : List Rule) {d : Done} → firstOf xs ≡ doneOption d → d ≡ D.Done → firstOf (xs ++ ys) ≡ firstOf ys
+  check-passed xs e p = first-none xs (e ∙ ap doneOption p)
+
+  pub check-refused : (xs : List Rule) {d : Done} {f : Refusal} → firstOf xs ≡ doneOption d → d ≡ D.Refused f → firstOf (xs ++ ys) ≡ some (refusalNumber f)
+  check-refused xs e p = first-some xs (e ∙ ap doneOption p)

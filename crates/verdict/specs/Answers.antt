@@ -41,10 +41,14 @@ firstOf (r ∷ rs) = cond (r .condition) (some (r .number)) (firstOf rs)
 abbrev pub keyRules : Key → List Rule
 keyRules k = rule 1 (not (isKey k)) ∷ []
 
--- a call's number and lent bytes: a refusal leaves the bytes as they were
+-- a call's answer and lent bytes: a refusal leaves the bytes as they were; `refuse` makes an answer of its number
+abbrev pub settleBy : {R A : Type 0} → (ℕ → R) → Option ℕ → R × A → A → R × A
+settleBy refuse none after before = after
+settleBy refuse (some n) after before = (refuse n, before)
+
+-- where the answer is a number
 abbrev pub settle : {A : Type 0} → Option ℕ → ℕ × A → A → ℕ × A
-settle none after before = after
-settle (some n) after before = (n, before)
+settle o after before = settleBy (λ n. n) o after before
 
 -- ---- the enums of the code
 

@@ -47,14 +47,24 @@ pub record Lent (t w p : List ℕ) (m : Context) (l g r out : List ℕ) : Type 0
   pub remote-size : length r ≡ length l
   pub out-size : length out ≡ length l
 
--- the number and the output of a verdict, with the output before
-abbrev pub verdictOutcome : Verdict → List ℕ → ℕ × List ℕ
-verdictOutcome (whole P) out = (0, P)
-verdictOutcome (doubtful p P) out = (doubtNumber p, P)
-verdictOutcome lost out = (6, out)
-verdictOutcome clashing out = (7, out)
+-- the number of a verdict
+abbrev pub verdictNumber : Verdict → ℕ
+verdictNumber (whole P) = 0
+verdictNumber (doubtful p P) = doubtNumber p
+verdictNumber lost = 6
+verdictNumber clashing = 7
 
--- and of judging
+-- the output afterwards, which was `out`
+abbrev pub verdictOutput : Verdict → List ℕ → List ℕ
+verdictOutput (whole P) out = P
+verdictOutput (doubtful p P) out = P
+verdictOutput lost out = out
+verdictOutput clashing out = out
+
+abbrev pub verdictOutcome : Verdict → List ℕ → ℕ × List ℕ
+verdictOutcome w out = (verdictNumber w, verdictOutput w out)
+
+-- what judging answers and leaves
 abbrev pub judgedBy : List ℕ → List ℕ → Context → List ℕ → List ℕ → List ℕ → List ℕ → ℕ × List ℕ
 judgedBy w p m l g r out = verdictOutcome (judge (schemeOf w p) (value (m .tweak)) (triple l g r)) out
 

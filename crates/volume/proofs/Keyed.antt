@@ -1,5 +1,5 @@
 -- What is worked out with a prepared key is what the mirror has under that key and number. Assumes nothing.
-use mathlib.Core.Path.{_≡_, refl, ap₂}
+use mathlib.Core.Path.{_≡_, ap₂}
 use mathlib.Core.List.{List}
 use Prim.Native.Nat.{ℕ}
 use Rattle.block.specs.Bytes.{part}
@@ -12,13 +12,9 @@ use Rattle.mode.specs.Sealing.{Triple, tweak}
 use Rattle.verdict.specs.Judging.{key, verdictOutcome, schemeOf, judgedBy}
 use Rattle.verdict.specs.Verdict.{fits, fitsTwo, candidate, grade, judge}
 use Rattle.verdict.proofs.Prepared.{ContextOf, scheme-is}
-use Rattle.volume.specs.Lent.{placesOf, firstOutcome, secondOutcome, thirdOutcome, mendOutcome}
+use Rattle.images.specs.Lent.{placesOf}
+use Rattle.volume.specs.Inner.{firstOutcome, secondOutcome, thirdOutcome, mendOutcome}
 use Rattle.history.specs.Volume.{blank, writes, writeAll, mirror}
-
--- the mirror at a number is the mode at its tweak
-judge-mirror : (k : List ℕ) (i : ℕ) (t : Triple) → judge (mirror (key k)) i t ≡ judge (scheme (key k)) (tweak i) t
-unfolding judge grade fitsTwo fits candidate mirror
-judge-mirror k i t = refl
 
 module _ (k : List ℕ) (r : Prepared) (e : PreparedFor k r) (m : Context) (i : ℕ) (em : ContextOf r m i) where
   abbrev S : Scheme

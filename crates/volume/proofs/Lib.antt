@@ -1,9 +1,4 @@
-pub mod Parts
-pub mod Answers
 pub mod Stages
 pub mod Mends
 pub mod Keyed
 pub mod Public
-pub mod Tallies
-pub mod Surveying
-pub mod SurveyFacts

@@ -10,11 +10,11 @@ use Rattle.verdict.specs.declared.Judged.the-variants as J
 use Rattle.verdict.specs.declared.Place as D
 use Rattle.verdict.specs.declared.Place.the-variants.{Local, Tag, Remote}
 use Rattle.verdict.specs.declared.Refusal.{Refusal}
-use Rattle.verdict.specs.declared.Refusal.the-variants.{KeyLength, SectorSize, OtherLength, UnknownSide, NoneFits, Lost, Clashing, VolumeShape, SectorNumber, StageOrder, ListLength}
 use Rattle.verdict.specs.Answers.{doubtNumber, refusalNumber, placeNumber, judgedNumber}
 use Rattle.verdict.specs.Judging.{verdictOutcome}
 use Rattle.verdict.specs.Verdict.{Verdict, whole, doubtful, lost, clashing}
-use Rattle.volume.specs.Lent.{placeNamed, verdictNumber, mendOutcome}
+use Rattle.verdict.proofs.Numbers.{refusal-range, doubt-least}
+use Rattle.volume.specs.Inner.{placeNamed, mendOutcome}
 use Rattle.history.specs.Volume.{write}
 
 -- ---- the verdict behind a number
@@ -22,31 +22,11 @@ use Rattle.history.specs.Volume.{write}
 abbrev number : ℕ × List ℕ → ℕ
 number x = x .0
 
--- a number for each kind of verdict
-verdict-number : (v : Verdict) (out : List ℕ) → number (verdictOutcome v out) ≡ verdictNumber v
-verdict-number (whole P) out = refl
-verdict-number (doubtful p P) out = refl
-verdict-number lost out = refl
-verdict-number clashing out = refl
-
 -- the enum's place has the place's number
 place-number : (p : D.Place) → placeNumber p ≡ doubtNumber (placeNamed p)
 place-number Local = refl
 place-number Tag = refl
 place-number Remote = refl
-
-refusal-below : (f : Refusal) (n : ℕ) → refusalNumber f ≡ n → (n ≡ 0 → ⊥) × (n ≡ 0x81 → ⊥) × (n ≡ 0x82 → ⊥) × (n ≡ 0x83 → ⊥)
-refusal-below KeyLength n e = (λ z. omega arith, λ z. omega arith, λ z. omega arith, λ z. omega arith)
-refusal-below SectorSize n e = (λ z. omega arith, λ z. omega arith, λ z. omega arith, λ z. omega arith)
-refusal-below OtherLength n e = (λ z. omega arith, λ z. omega arith, λ z. omega arith, λ z. omega arith)
-refusal-below UnknownSide n e = (λ z. omega arith, λ z. omega arith, λ z. omega arith, λ z. omega arith)
-refusal-below NoneFits n e = (λ z. omega arith, λ z. omega arith, λ z. omega arith, λ z. omega arith)
-refusal-below Lost n e = (λ z. omega arith, λ z. omega arith, λ z. omega arith, λ z. omega arith)
-refusal-below Clashing n e = (λ z. omega arith, λ z. omega arith, λ z. omega arith, λ z. omega arith)
-refusal-below VolumeShape n e = (λ z. omega arith, λ z. omega arith, λ z. omega arith, λ z. omega arith)
-refusal-below SectorNumber n e = (λ z. omega arith, λ z. omega arith, λ z. omega arith, λ z. omega arith)
-refusal-below StageOrder n e = (λ z. omega arith, λ z. omega arith, λ z. omega arith, λ z. omega arith)
-refusal-below ListLength n e = (λ z. omega arith, λ z. omega arith, λ z. omega arith, λ z. omega arith)
 
 doubts-same : (p q : Place) → doubtNumber p ≡ doubtNumber q → p ≡ q
 doubts-same local local e = refl
@@ -59,30 +39,23 @@ doubts-same remote local e = absurd (omega arith)
 doubts-same remote tag e = absurd (omega arith)
 doubts-same remote remote e = refl
 
-doubt-large : (p : Place) (n : ℕ) → doubtNumber p ≡ n → (n ≡ 0 → ⊥) × (n ≡ 6 → ⊥) × (n ≡ 7 → ⊥)
-doubt-large local n e = (λ z. omega arith, λ z. omega arith, λ z. omega arith)
-doubt-large tag n e = (λ z. omega arith, λ z. omega arith, λ z. omega arith)
-doubt-large remote n e = (λ z. omega arith, λ z. omega arith, λ z. omega arith)
-
 module _ (S : Scheme) (T s i : ℕ) (x : Triple) (out o : List ℕ) where
   whole-mend : (v : Verdict) → verdictOutcome v out ≡ (0, o) → mendOutcome S T s i x v ≡ (0, x)
   whole-mend (whole P) e = refl
-  whole-mend (doubtful p P) e = absurd (doubt-large p 0 (ap number e) .0 refl)
-  whole-mend lost e = absurd (let z : 6 ≡ 0 = ap number e in omega arith)
-  whole-mend clashing e = absurd (let z : 7 ≡ 0 = ap number e in omega arith)
+  whole-mend (doubtful p P) e = absurd (omega (arith, ap number e, doubt-least p))
+  whole-mend lost e = absurd (omega (arith, ap number e))
+  whole-mend clashing e = absurd (omega (arith, ap number e))
 
   doubtful-mend : (v : Verdict) (p : Place) → verdictOutcome v out ≡ (doubtNumber p, o) → mendOutcome S T s i x v ≡ (doubtNumber p, write s i p (on (S .sealed T o) p) x)
-  doubtful-mend (whole P) p e = absurd (doubt-large p 0 (sym (ap number e)) .0 refl)
+  doubtful-mend (whole P) p e = absurd (omega (arith, ap number e, doubt-least p))
   doubtful-mend (doubtful q P) p e =
       ap₂ (λ (d : Place) (Q : List ℕ). (doubtNumber d, write s i d (on (S .sealed T Q) d) x)) (doubts-same q p (ap number e)) (ap (λ (y : ℕ × List ℕ). y .1) e)
-  doubtful-mend lost p e = absurd (doubt-large p 6 (sym (ap number e)) .1 refl)
-  doubtful-mend clashing p e = absurd (doubt-large p 7 (sym (ap number e)) .2 refl)
+  doubtful-mend lost p e = absurd (omega (arith, ap number e, doubt-least p))
+  doubtful-mend clashing p e = absurd (omega (arith, ap number e, doubt-least p))
 
   refused-mend : (v : Verdict) (f : Refusal) → verdictOutcome v out ≡ (refusalNumber f, o) → mendOutcome S T s i x v ≡ (refusalNumber f, x)
-  refused-mend (whole P) f e = absurd (refusal-below f 0 (sym (ap number e)) .0 refl)
-  refused-mend (doubtful local P) f e = absurd (refusal-below f 0x81 (sym (ap number e)) .1 refl)
-  refused-mend (doubtful tag P) f e = absurd (refusal-below f 0x82 (sym (ap number e)) .2 refl)
-  refused-mend (doubtful remote P) f e = absurd (refusal-below f 0x83 (sym (ap number e)) .3 refl)
+  refused-mend (whole P) f e = absurd (omega (arith, ap number e, refusal-range f))
+  refused-mend (doubtful p P) f e = absurd (omega (arith, ap number e, refusal-range f, doubt-least p))
   refused-mend lost f e = ap (λ (n : ℕ). (n, x)) (ap number e)
   refused-mend clashing f e = ap (λ (n : ℕ). (n, x)) (ap number e)
 

@@ -5,44 +5,31 @@ use mathlib.Core.List.{List, [], _∷_}
 use mathlib.Core.Option.{Option, none, some}
 use Prim.Native.Nat.{ℕ, _≤_}
 use native.Mathlib.Omega.{arith}
-use lib.Dec.{leb}
 use lib.ListN.{length, take, replicate, length-take, length-replicate}
-use borrow.Author.Tests.{leb-true}
 use Rattle.block.specs.Bytes.{patch}
-use Rattle.block.proofs.Lists.{and-left, and-right, take-zeros}
-use Rattle.block.proofs.Parts.{part-end}
+use Rattle.block.proofs.Lists.{take-zeros}
 use Rattle.mode.specs.Scheme.{local, tag, remote, on, Scheme}
 use Rattle.mode.specs.Sealing.{Triple}
-use Rattle.mode.proofs.Sizes.{key-size, size-whole, size-le}
 use Rattle.verdict.specs.Answers.{rule, firstOf}
 use Rattle.verdict.specs.Judging.{verdictOutcome}
 use Rattle.verdict.specs.Verdict.{Verdict, whole, doubtful, lost, clashing, fits, judge}
 use Rattle.history.specs.Answers.{Answer, done, reply, isWhole, isLost, isClashing, unjudged, judgeAnswer, answerNumber, output}
-use Rattle.volume.specs.Lent.{Within, stage, firstOutcome, secondOutcome, thirdOutcome, mendOutcome}
-use Rattle.history.specs.Volume.{store, writeAll, Args, Call, blank, first, second, third, mend, read, shape, isShape, lengthRules, lengths, early, mends, writes, mendAnswer, result, unless, sector, refusal, after, mirror, outcome, readOutcome}
+use Rattle.images.specs.Lent.{Within}
+use Rattle.images.proofs.Rooms.{has-room, within-room}
+use Rattle.volume.specs.Inner.{stage, firstOutcome, secondOutcome, thirdOutcome, mendOutcome}
+use Rattle.history.specs.Volume.{store, writeAll, Args, Call, blank, first, second, third, mend, read, lengthRules, lengths, early, mends, writes, mendAnswer, result, unless, sector, refusal, after, mirror, outcome, readOutcome}
 use Rattle.history.proofs.Images.{after-accepted, after-refused}
-use Rattle.history.proofs.Refusals.{passed, long-3, shape-facts, refusal-late, answer-accepted, answer-refused, answer-late, early-answer, refusal-early}
+use Rattle.history.proofs.Refusals.{passed, long-3, refusal-late, answer-accepted, answer-refused, answer-late, early-answer, refusal-early}
 
 -- ---- ranges
-
-pub count-le : (s n : ℕ) (v : Triple) → isShape s n v ≡ true → n ≤ 65536
-unfolding isShape shape
-count-le s n v e = leb-true n 65536 (and-left (leb n 65536) _ (and-right (leb 1 n) _ e))
 
 -- what passing the early checks shows
 pub within : (v : Triple) (a : Args) (c : Call) → firstOf (early v a c) ≡ none
     → (length (a .key .bytes) ≡ 32) × Within (a .size) (a .number) (length (v .local)) (length (v .tag)) (length (v .remote))
 within v a c e =
-    let o = passed v a c e .common in
-    let f = shape-facts (a .size) (a .count) v (o .shape) .1 in
-    let n = count-le (a .size) (a .count) v (o .shape) in
-    let l = f local in
-    let g = f tag in
-    let r = f remote in
-    let h = o .number in
-    let p = part-end (a .size) (a .count) (a .number) h in
-    let q = part-end 16 (a .count) (a .number) h in
-    (key-size (a .key) (o .key), record { blocks = size-whole (a .size) (o .size); most = size-le (a .size) (o .size); number = omega arith; local-end = omega arith; tag-end = omega arith; remote-end = omega arith })
+    let p = passed v a c e in
+    let (k, room) = has-room v (a .key) (a .size) (a .count) (p .common) in
+    (k, within-room (a .size) (a .count) (a .number) (length (v .local)) (length (v .tag)) (length (v .remote)) room (p .number))
 
 -- the same for a call with a plaintext or an output of p bytes, which is then s
 pub with-length : (v : Triple) (a : Args) (c : Call) (p : ℕ) → firstOf (lengthRules p (a .size)) ≡ firstOf (lengths a c) → firstOf (early v a c) ≡ none → p ≡ a .size

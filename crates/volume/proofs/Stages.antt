@@ -2,60 +2,32 @@
 use mathlib.Core.Path.{_≡_, refl, sym, ap, _∙_}
 use mathlib.Core.Bool.{Bool, true, false, _&&_}
 use mathlib.Core.List.{List}
-use Prim.Native.Nat.{ℕ, _*_, _<_}
+use Prim.Native.Nat.{ℕ, _<_}
 use native.Mathlib.Omega.{arith}
-use lib.Dec.{eqb, lit<}
-use lib.ListN.{length, take, drop}
-use Rattle.block.specs.Bytes.{Bytes, fromBytes, toBytes, blocksOf, part, patch, same}
+use Rattle.block.specs.Bytes.{patch}
 use Rattle.block.proofs.Lists.{and-both}
-use Rattle.aes.specs.Aes.{cipherNumber}
-use Rattle.hash.specs.Powers.{keyOf}
-use Rattle.mode.specs.declared.Direction.the-variants.{SealLocal, SealRemote}
-use Rattle.mode.specs.Scheme.{local, tag, remote, Scheme, dcm}
-use Rattle.mode.specs.Sealing.{blockwise, tagBlock, pad, localBlock, remoteBlock, sides, sealedBy}
-use Rattle.mode.specs.Transforms.{transformed}
+use Rattle.mode.specs.Scheme.{local, tag, Scheme}
 use Rattle.verdict.specs.declared.Judged.{Judged}
 use Rattle.verdict.specs.declared.Judged.the-variants as J
 use Rattle.verdict.specs.declared.Place.{Place}
-use Rattle.verdict.specs.declared.Place.the-variants.{Local, Tag, Remote}
 use Rattle.verdict.specs.declared.Refusal.{Refusal}
-use Rattle.verdict.specs.declared.Refusal.the-variants.{KeyLength, SectorSize, OtherLength, UnknownSide, NoneFits, Lost, Clashing, VolumeShape, SectorNumber, StageOrder, ListLength}
 use Rattle.verdict.specs.Answers.{refusalNumber, placeNumber, judgedNumber}
 use Rattle.verdict.specs.Judging.{verdictOutcome, schemeOf}
 use Rattle.verdict.specs.Verdict.{Verdict, whole, doubtful, lost, clashing, fits, judge}
-use Rattle.verdict.proofs.Sides.{tag-loaded, tag-compared}
+use Rattle.verdict.proofs.Numbers.{refusal-range, place-least, doubt-least}
 use Rattle.history.specs.Answers.{isWhole}
-use Rattle.volume.specs.Lent.{stage, placesOf, firstOutcome, secondOutcome, thirdOutcome}
+use Rattle.images.specs.Lent.{placesOf}
+use Rattle.volume.specs.Inner.{stage, firstOutcome, secondOutcome, thirdOutcome}
 
--- ---- numbers of answers
-
-pub refusal-range : (f : Refusal) → (0 < refusalNumber f) × (refusalNumber f < 128)
-refusal-range KeyLength = (lit< tt, lit< tt)
-refusal-range SectorSize = (lit< tt, lit< tt)
-refusal-range OtherLength = (lit< tt, lit< tt)
-refusal-range UnknownSide = (lit< tt, lit< tt)
-refusal-range NoneFits = (lit< tt, lit< tt)
-refusal-range Lost = (lit< tt, lit< tt)
-refusal-range Clashing = (lit< tt, lit< tt)
-refusal-range VolumeShape = (lit< tt, lit< tt)
-refusal-range SectorNumber = (lit< tt, lit< tt)
-refusal-range StageOrder = (lit< tt, lit< tt)
-refusal-range ListLength = (lit< tt, lit< tt)
-
-pub place-least : (p : Place) → 128 < placeNumber p
-place-least Local = lit< tt
-place-least Tag = lit< tt
-place-least Remote = lit< tt
+-- ---- the answer of judging
 
 -- the number 0 is that of whole
 zero-whole : (v : Verdict) (out o : List ℕ) → verdictOutcome v out ≡ (0, o) → isWhole v ≡ true
 unfolding isWhole
 zero-whole (whole P) out o e = refl
-zero-whole (doubtful local P) out o e = absurd (let z : 0x81 ≡ 0 = ap (λ (x : ℕ × List ℕ). x .0) e in omega arith)
-zero-whole (doubtful tag P) out o e = absurd (let z : 0x82 ≡ 0 = ap (λ (x : ℕ × List ℕ). x .0) e in omega arith)
-zero-whole (doubtful remote P) out o e = absurd (let z : 0x83 ≡ 0 = ap (λ (x : ℕ × List ℕ). x .0) e in omega arith)
-zero-whole lost out o e = absurd (let z : 6 ≡ 0 = ap (λ (x : ℕ × List ℕ). x .0) e in omega arith)
-zero-whole clashing out o e = absurd (let z : 7 ≡ 0 = ap (λ (x : ℕ × List ℕ). x .0) e in omega arith)
+zero-whole (doubtful p P) out o e = absurd (omega (arith, ap (λ (x : ℕ × List ℕ). x .0) e, doubt-least p))
+zero-whole lost out o e = absurd (omega (arith, ap (λ (x : ℕ × List ℕ). x .0) e))
+zero-whole clashing out o e = absurd (omega (arith, ap (λ (x : ℕ × List ℕ). x .0) e))
 
 some-not-whole : (v : Verdict) (out o : List ℕ) (n : ℕ) → verdictOutcome v out ≡ (n, o) → 0 < n → isWhole v ≡ false
 unfolding isWhole
@@ -112,25 +84,3 @@ module _ (w p : List ℕ) (T s i : ℕ) (P l g r : List ℕ) where
 
   pub third-no-tag : fits S T (placesOf s i l g r) tag P ≡ false → thirdOutcome S T s i P l g r ≡ (10, r)
   third-no-tag e = stage-no (patch s i (S .sealed T P .remote) r) r (and-second (fits S T (placesOf s i l g r) local P) (fits S T (placesOf s i l g r) tag P) e)
-
-module _ (w p : List ℕ) (T s i : ℕ) (P l g r : List ℕ) (k : ℕ) (ek : k ≡ tagBlock (cipherNumber w) (keyOf p) T P) where
-  pub local-test : {x : Bool} → x ≡ same (part s i l) (sides (cipherNumber w) k P .local) → x ≡ fits (schemeOf w p) T (placesOf s i l g r) local P
-  unfolding fits dcm sealedBy
-  local-test e = e ∙ ap (λ (n : ℕ). same (part s i l) (sides (cipherNumber w) n P .local)) ek
-
-  pub tag-test : length (part 16 i g) ≡ 16 → Bytes (part 16 i g) → (n : ℕ) → n ≡ fromBytes (take 16 (drop (i * 16) g)) → {x : Bool} → x ≡ eqb k n → x ≡ fits (schemeOf w p) T (placesOf s i l g r) tag P
-  unfolding fits part
-  tag-test size bytes n en e = tag-compared w p T (part 16 i g) size bytes P k n ek (en ∙ sym (tag-loaded (part 16 i g) size)) e
-
-  -- what is written
-  pub local-written : {o : List ℕ} → o ≡ patch s i (blockwise (λ j v. transformed SealLocal (pad (cipherNumber w) k j) v) 1 (blocksOf P)) l → o ≡ patch s i (schemeOf w p .sealed T P .local) l
-  unfolding dcm sealedBy sides localBlock
-  local-written e = e ∙ ap (λ (n : ℕ). patch s i (blockwise (localBlock (cipherNumber w) n) 1 (blocksOf P)) l) ek
-
-  pub tag-written : {o : List ℕ} → o ≡ patch 16 i (toBytes 16 k) g → o ≡ patch 16 i (schemeOf w p .sealed T P .tag) g
-  unfolding dcm sealedBy sides
-  tag-written e = e ∙ ap (λ (n : ℕ). patch 16 i (toBytes 16 n) g) ek
-
-  pub remote-written : {o : List ℕ} → o ≡ patch s i (blockwise (λ j v. transformed SealRemote (pad (cipherNumber w) k j) v) 1 (blocksOf P)) r → o ≡ patch s i (schemeOf w p .sealed T P .remote) r
-  unfolding dcm sealedBy sides remoteBlock
-  remote-written e = e ∙ ap (λ (n : ℕ). patch s i (blockwise (remoteBlock (cipherNumber w) n) 1 (blocksOf P)) r) ek

@@ -1,9 +1,7 @@
-use mathlib.Core.Path.{ap, _∙_}
-use Rattle.verdict.specs.Answers.{doneOption, keyRules}
+use mathlib.Core.Path.{_∙_}
 use Rattle.verdict.specs.Judging.{key}
-use Rattle.verdict.proofs.Rules.{first-none, first-some}
-use Rattle.history.specs.Volume.{shape, shapeRules, lengthRules}
-use mathlib.Core.List.{_++_}
+use Rattle.verdict.proofs.Rules.{check-passed, check-refused}
+use Rattle.history.specs.Volume.{args, shape, sectorRules, lengthRules}
 use borrow.Author.Tests.{eq-eqb, ne-eqb}
 use borrow.Author.Needs.{needs}
 use Rattle.history.proofs.check_with.Statement.{statement}
@@ -21,17 +19,17 @@ enum-known-checked c = search needs
 returns : tie.Need-returns
 returns c =
     let a = c .before .before .before .before .before .args in
-    first-none (lengthRules (a .p) (a .s)) (keyRules (key (a .key .now)) ++ shapeRules (a .s) (a .n) (a .i) (shape (a .s) (a .n) (a .l) (a .g) (a .r))) (c .before .before .before .check .ensures ∙ ap doneOption (c .before .enum-told .given .1)) ∙ simp (eq-eqb _ _ (c .if1 .taken))
+    check-passed (lengthRules (a .p) (a .s)) (sectorRules (shape (a .s) (a .n) (a .l) (a .g) (a .r)) (args (key (a .key .now)) (a .s) (a .n) (a .i))) (c .before .before .before .check .ensures) (c .before .enum-told .given .1) ∙ simp (eq-eqb _ _ (c .if1 .taken))
 
 returns-2 : tie.Need-returns-2
 returns-2 c =
     let a = c .before .before .before .before .before .args in
-    first-none (lengthRules (a .p) (a .s)) (keyRules (key (a .key .now)) ++ shapeRules (a .s) (a .n) (a .i) (shape (a .s) (a .n) (a .l) (a .g) (a .r))) (c .before .before .before .check .ensures ∙ ap doneOption (c .before .enum-told .given .1)) ∙ simp (ne-eqb _ _ (c .if1 .left))
+    check-passed (lengthRules (a .p) (a .s)) (sectorRules (shape (a .s) (a .n) (a .l) (a .g) (a .r)) (args (key (a .key .now)) (a .s) (a .n) (a .i))) (c .before .before .before .check .ensures) (c .before .enum-told .given .1) ∙ simp (ne-eqb _ _ (c .if1 .left))
 
 returns-3 : tie.Need-returns-3
 returns-3 c =
     let a = c .before .before .before .before .before .args in
-    first-some (lengthRules (a .p) (a .s)) (keyRules (key (a .key .now)) ++ shapeRules (a .s) (a .n) (a .i) (shape (a .s) (a .n) (a .l) (a .g) (a .r))) (c .before .before .before .check .ensures ∙ ap doneOption (c .before .checked .given .1))
+    check-refused (lengthRules (a .p) (a .s)) (sectorRules (shape (a .s) (a .n) (a .l) (a .g) (a .r)) (args (key (a .key .now)) (a .s) (a .n) (a .i))) (c .before .before .before .check .ensures) (c .before .checked .given .1)
 
 pub check-with-spec : {M : Type 1} → statement M
 check-with-spec =

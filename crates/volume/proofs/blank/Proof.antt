@@ -6,8 +6,7 @@ use lib.ListN.{length, take, replicate, length-take, length-replicate}
 use Rattle.mode.specs.Scheme.{local, tag, remote, on}
 use Rattle.verdict.specs.Answers.{doneOption}
 use Rattle.verdict.specs.Judging.{key, triple}
-use Rattle.volume.specs.Lent.{args}
-use Rattle.history.specs.Volume.{writeAll, blank, isShape, early, mirror}
+use Rattle.history.specs.Volume.{args, writeAll, blank, isShape, early, mirror}
 use Rattle.volume.proofs.Public.{within, within-length, prefix-size, zeros-are, early-refused, blank-passes}
 use borrow.Author.Needs.{needs}
 use Rattle.volume.proofs.blank.Statement.{statement}

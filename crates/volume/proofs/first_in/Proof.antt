@@ -2,8 +2,9 @@ use Rattle.block.specs.Value.{value}
 use lib.ListN.{length}
 use Rattle.verdict.specs.Judging.{schemeOf}
 use Rattle.verdict.specs.Verdict.{judge}
-use Rattle.volume.specs.Lent.{placesOf}
-use Rattle.volume.proofs.Stages.{judged-whole, judged-doubtful, judged-refused, first-yes, first-no, local-written}
+use Rattle.images.specs.Lent.{placesOf}
+use Rattle.images.proofs.Sealed.{local-written}
+use Rattle.volume.proofs.Stages.{judged-whole, judged-doubtful, judged-refused, first-yes, first-no}
 use borrow.Author.Needs.{needs}
 use Rattle.volume.proofs.first_in.Statement.{statement}
 use Rattle.volume.proofs.first_in.Tie as tie

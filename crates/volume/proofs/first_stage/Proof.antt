@@ -3,8 +3,8 @@ use Prim.Native.Nat.{ℕ}
 use lib.ListN.{length}
 use Rattle.verdict.specs.Answers.{doneOption}
 use Rattle.verdict.specs.Judging.{key, triple}
-use Rattle.volume.specs.Lent.{args, firstOutcome}
-use Rattle.history.specs.Volume.{first, isShape, early, mirror}
+use Rattle.history.specs.Volume.{args, first, isShape, early, mirror}
+use Rattle.volume.specs.Inner.{firstOutcome}
 use Rattle.volume.proofs.Public.{with-length, within-length, early-refused, first-passes}
 use borrow.Author.Needs.{needs}
 use Rattle.volume.proofs.first_stage.Statement.{statement}

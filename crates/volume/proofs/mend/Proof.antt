@@ -1,8 +1,7 @@
 use mathlib.Core.Path.{ap, _∙_}
 use Rattle.verdict.specs.Answers.{doneOption}
 use Rattle.verdict.specs.Judging.{key, triple}
-use Rattle.volume.specs.Lent.{args}
-use Rattle.history.specs.Volume.{mend, isShape, early}
+use Rattle.history.specs.Volume.{args, mend, isShape, early}
 use Rattle.volume.proofs.Public.{within, early-refused, mend-passes}
 use borrow.Author.Needs.{needs}
 use Rattle.volume.proofs.mend.Statement.{statement}

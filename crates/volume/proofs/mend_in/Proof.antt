@@ -4,7 +4,7 @@ use lib.ListN.{length}
 use Rattle.block.specs.Value.{value}
 use Rattle.verdict.specs.Judging.{triple, schemeOf}
 use Rattle.verdict.specs.Verdict.{judge}
-use Rattle.volume.specs.Lent.{Within, placesOf}
+use Rattle.images.specs.Lent.{Within, placesOf}
 use Rattle.volume.proofs.Mends.{mend-whole, mend-doubtful, mend-refused}
 use borrow.Author.Needs.{needs}
 use Rattle.volume.proofs.mend_in.Statement.{statement}

@@ -2,8 +2,7 @@ use mathlib.Core.Path.{refl, ap, _∙_}
 use lib.ListN.{length}
 use Rattle.verdict.specs.Answers.{doneOption}
 use Rattle.verdict.specs.Judging.{key, triple}
-use Rattle.volume.specs.Lent.{args}
-use Rattle.history.specs.Volume.{read, isShape, early}
+use Rattle.history.specs.Volume.{args, read, isShape, early}
 use Rattle.volume.proofs.Public.{within, with-length, read-passes, read-refused}
 use borrow.Author.Needs.{needs}
 use Rattle.volume.proofs.read.Statement.{statement}

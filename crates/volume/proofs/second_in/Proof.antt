@@ -1,7 +1,8 @@
 use mathlib.Core.Path.{sym, _∙_}
 use Rattle.block.specs.Value.{value}
 use lib.ListN.{length}
-use Rattle.volume.proofs.Stages.{second-yes, second-no, local-test, tag-written}
+use Rattle.images.proofs.Sealed.{local-test, tag-written}
+use Rattle.volume.proofs.Stages.{second-yes, second-no}
 use borrow.Author.Needs.{needs}
 use Rattle.volume.proofs.second_in.Statement.{statement}
 use Rattle.volume.proofs.second_in.Tie as tie

@@ -3,8 +3,8 @@ use Prim.Native.Nat.{ℕ}
 use lib.ListN.{length}
 use Rattle.verdict.specs.Answers.{doneOption}
 use Rattle.verdict.specs.Judging.{key, triple}
-use Rattle.volume.specs.Lent.{args, secondOutcome}
-use Rattle.history.specs.Volume.{second, isShape, early, mirror}
+use Rattle.history.specs.Volume.{args, second, isShape, early, mirror}
+use Rattle.volume.specs.Inner.{secondOutcome}
 use Rattle.volume.proofs.Public.{with-length, within-length, early-refused, second-passes}
 use borrow.Author.Needs.{needs}
 use Rattle.volume.proofs.second_stage.Statement.{statement}

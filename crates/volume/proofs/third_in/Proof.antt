@@ -3,8 +3,9 @@ use Rattle.block.specs.Value.{value}
 use lib.ListN.{length}
 use Rattle.block.proofs.Lists.{bytes-all}
 use Rattle.block.proofs.Parts.{bytes-part}
-use Rattle.volume.proofs.Parts.{tag-size}
-use Rattle.volume.proofs.Stages.{third-yes, third-no-local, third-no-tag, local-test, tag-test, remote-written}
+use Rattle.images.proofs.Parts.{tag-size}
+use Rattle.images.proofs.Sealed.{local-test, tag-test, remote-written}
+use Rattle.volume.proofs.Stages.{third-yes, third-no-local, third-no-tag}
 use borrow.Author.Needs.{needs}
 use Rattle.volume.proofs.third_in.Statement.{statement}
 use Rattle.volume.proofs.third_in.Tie as tie

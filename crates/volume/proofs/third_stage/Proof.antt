@@ -3,8 +3,8 @@ use Prim.Native.Nat.{ℕ}
 use lib.ListN.{length}
 use Rattle.verdict.specs.Answers.{doneOption}
 use Rattle.verdict.specs.Judging.{key, triple}
-use Rattle.volume.specs.Lent.{args, thirdOutcome}
-use Rattle.history.specs.Volume.{third, isShape, early, mirror}
+use Rattle.history.specs.Volume.{args, third, isShape, early, mirror}
+use Rattle.volume.specs.Inner.{thirdOutcome}
 use Rattle.volume.proofs.Public.{with-length, within-length, early-refused, third-passes}
 use borrow.Author.Needs.{needs}
 use Rattle.volume.proofs.third_stage.Statement.{statement}

@@ -1,7 +1,7 @@
 use Rattle.block.specs.Value.{value}
 use lib.ListN.{length}
 use Rattle.verdict.specs.Judging.{triple}
-use Rattle.volume.proofs.Stages.{local-written, tag-written, remote-written}
+use Rattle.images.proofs.Sealed.{local-written, tag-written, remote-written}
 use borrow.Author.Needs.{needs}
 use Rattle.volume.proofs.write_all.Statement.{statement}
 use Rattle.volume.proofs.write_all.Tie as tie

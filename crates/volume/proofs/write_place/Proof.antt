@@ -4,9 +4,9 @@ use lib.ListN.{length}
 use Rattle.mode.specs.Scheme.{on}
 use Rattle.verdict.specs.declared.Place as D
 use Rattle.verdict.specs.Judging.{triple, schemeOf}
-use Rattle.volume.specs.Lent.{placeNamed}
+use Rattle.volume.specs.Inner.{placeNamed}
 use Rattle.history.specs.Volume.{write}
-use Rattle.volume.proofs.Stages.{local-written, tag-written, remote-written}
+use Rattle.images.proofs.Sealed.{local-written, tag-written, remote-written}
 use borrow.Author.Needs.{needs}
 use Rattle.volume.proofs.write_place.Statement.{statement}
 use Rattle.volume.proofs.write_place.Tie as tie

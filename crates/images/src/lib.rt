@@ -1,0 +1,104 @@
+// A sector's parts of a volume's three images, lent on with a prepared key: to judging, to the sealing of one side, and to comparing.
+use aes::Table;
+use block::Block;
+use mode::Context;
+use mode::Direction;
+use verdict::Judged;
+ghost use mathlib.Core.Path.{_≡_};
+ghost use Prim.Native.Nat.{_+_, _*_, _<_, _≤_, _%_};
+ghost use lib.ListN.{length};
+ghost use Rattle.block.specs.Bytes.{toBytes, blocksOf, part, patch, same};
+ghost use Rattle.block.specs.Value.{value};
+ghost use Rattle.aes.specs.Aes.{cipherNumber};
+ghost use Rattle.aes.specs.Columns.{roundTable};
+ghost use Rattle.mode.specs.Prepared.{Ready};
+ghost use Rattle.mode.specs.Sealing.{pad, blockwise, sides};
+ghost use Rattle.mode.specs.Transforms.{transformed};
+ghost use Rattle.verdict.specs.Answers.{judgedNumber};
+ghost use Rattle.verdict.specs.Judging.{judgedBy};
+ghost use Rattle.images.specs.Lent.{Within};
+
+// Judges sector i of the images with a prepared key.
+pub fn judge_part(
+    t: &Table,
+    w: &[u32],
+    powers: &[u64; 18],
+    m: Context,
+    s: usize,
+    i: usize,
+    local: &[u8],
+    tags: &[u8],
+    remote: &[u8],
+    out: &mut [u8],
+    sum: &mut [u8],
+    scratch: &mut [u8],
+) -> Judged
+    requires { ⌜ Ready (now t) (now w) (now powers) m × Within s i (length (now local)) (length (now tags)) (length (now remote)) × (length (now out) ≡ s) × (length (now sum) ≡ s) × (length (now scratch) ≡ s) ⌝ }
+    ensures { λ r. ⌜ judgedBy (now (w .entry)) (now (powers .entry)) m (part s i (now (local .entry))) (part 16 i (now (tags .entry))) (part s i (now (remote .entry))) (now (out .entry)) ≡ (judgedNumber r, now (out .exit)) ⌝ }
+{
+    let a = i * s;
+    let e = a + s;
+    let b = i * 16;
+    let f = b + 16;
+    verdict::judge_in(
+        t,
+        w,
+        powers,
+        m,
+        &local[a..e],
+        &tags[b..f],
+        &remote[a..e],
+        out,
+        sum,
+        scratch,
+    )
+}
+
+// Writes a side of p, whose tag is g, to sector i of an image: the image's part is lent to the sealing of that side.
+pub fn write_side(
+    t: &Table,
+    w: &[u32],
+    beta: Block,
+    how: Direction,
+    g: Block,
+    p: &[u8],
+    i: usize,
+    image: &mut [u8],
+)
+    requires { ⌜ (now t ≡ roundTable) × (8 ≤ length (now w)) × (value beta ≡ cipherNumber (now w) 1) × (length (now p) % 16 ≡ 0) × (length (now p) ≤ 4096) × (i < 65536) × (i * length (now p) + length (now p) ≤ length (now image)) ⌝ }
+    ensures { λ _. ⌜ now (image .exit) ≡ patch (length (now (p .entry))) i (blockwise (λ j v. transformed how (pad (cipherNumber (now (w .entry))) (value g) j) v) 1 (blocksOf (now (p .entry)))) (now (image .entry)) ⌝ }
+{
+    let s = p.len();
+    let a = i * s;
+    let e = a + s;
+    mode::transform(t, w, beta, how, g, p, &mut image[a..e]);
+}
+
+// Writes a tag to sector i of the tags.
+pub fn write_tag(g: Block, i: usize, tags: &mut [u8])
+    requires { ⌜ (i < 65536) × (i * 16 + 16 ≤ length (now tags)) ⌝ }
+    ensures { λ _. ⌜ now (tags .exit) ≡ patch 16 i (toBytes 16 (value g)) (now (tags .entry)) ⌝ }
+{
+    block::store(tags, i * 16, g);
+}
+
+// Whether sector i of the local image is p's local sector, where p's tag is g.
+pub fn fits_local(
+    t: &Table,
+    w: &[u32],
+    beta: Block,
+    g: Block,
+    p: &[u8],
+    i: usize,
+    local: &[u8],
+    scratch: &mut [u8],
+) -> bool
+    requires { ⌜ (now t ≡ roundTable) × (8 ≤ length (now w)) × (value beta ≡ cipherNumber (now w) 1) × (length (now p) % 16 ≡ 0) × (length (now p) ≤ 4096) × (i < 65536) × (i * length (now p) + length (now p) ≤ length (now local)) × (length (now scratch) ≡ length (now p)) ⌝ }
+    ensures { λ r. ⌜ r ≡ same (part (length (now (p .entry))) i (now (local .entry))) (sides (cipherNumber (now (w .entry))) (value g) (now (p .entry)) .local) ⌝ }
+{
+    let s = p.len();
+    let a = i * s;
+    let e = a + s;
+    mode::transform(t, w, beta, Direction::SealLocal, g, p, scratch);
+    block::same(&local[a..e], &scratch[..])
+}

@@ -1,0 +1,3 @@
+pub mod Tallies
+pub mod Surveying
+pub mod SurveyFacts

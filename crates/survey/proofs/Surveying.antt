@@ -1,0 +1,216 @@
+-- The survey, sector by sector: what each verdict adds, the loop's invariant, and the call's refusals. Assumes nothing.
+use mathlib.Core.Path.{_≡_, refl, sym, ap, ap₂, subst, _∙_}
+use mathlib.Core.Bool.{Bool, true, false, not, cond}
+use mathlib.Core.List.{List, [], _∷_, _++_, append-assoc}
+use mathlib.Core.Option.{Option, none, some}
+use Prim.Native.Nat.{ℕ, suc, _+_, _-_, _<_, _≤_}
+use native.Mathlib.Numerals.{add-one}
+use native.Mathlib.Omega.{arith}
+use lib.Dec.{eqb, ltb}
+use lib.ListN.{length, drop, set, length-append}
+use lib.Seq.{drop-cons, set-at}
+use borrow.Author.Tests.{ltb-false, eq-eqb, ne-eqb}
+use Rattle.mode.specs.declared.Context.{Context}
+use Rattle.mode.specs.declared.Prepared.{Prepared}
+use Rattle.mode.specs.Prepared.{PreparedFor, Ready}
+use Rattle.mode.specs.Scheme.{Scheme}
+use Rattle.mode.specs.Sealing.{Triple, Key, tweak}
+use Rattle.block.specs.Value.{value}
+use Rattle.block.specs.Bytes.{part}
+use Rattle.verdict.specs.declared.Judged.{Judged}
+use Rattle.verdict.specs.declared.Judged.the-variants as J
+use Rattle.verdict.specs.declared.Place as D
+use Rattle.verdict.specs.declared.Refusal.{Refusal}
+use Rattle.verdict.specs.declared.Refusal.the-variants.{KeyLength, SectorSize, OtherLength, UnknownSide, NoneFits, Lost, Clashing, VolumeShape, SectorNumber, StageOrder, ListLength}
+use Rattle.verdict.specs.Answers.{Rule, rule, firstOf, settleBy, refusalNumber, judgedNumber}
+use Rattle.verdict.specs.Judging.{key, triple, verdictNumber, schemeOf, judgedBy}
+use Rattle.verdict.specs.Verdict.{Verdict, whole, doubtful, lost, clashing, fits, fitsTwo, candidate, grade, judge}
+use Rattle.verdict.proofs.Prepared.{scheme-is}
+use Rattle.verdict.proofs.Rules.{only-rule, none-left, none-right}
+use Rattle.survey.specs.declared.Counts.{Counts}
+use Rattle.history.specs.Answers.{isWhole, isDoubtful, isClashing, isLost}
+use Rattle.images.specs.Lent.{placesOf}
+use Rattle.survey.specs.Survey.{tally, listed, health, countsOf, written, Report, counted, refused, surveyRules, verdictAt, surveyed, surveyOutcome}
+use Rattle.survey.specs.Inner.{verdictBy, Tells, addIf, counting, CountsOne, ListsOne}
+use Rattle.history.specs.Volume.{isShape, volumeRules, mirror}
+use Rattle.history.proofs.Refusals.{Common, common}
+use Rattle.verdict.proofs.Numbers.{refusal-range, place-least, doubt-least}
+use Rattle.survey.proofs.Tallies.{tally-le, length-listed}
+
+-- ---- one sector: what the code's answer tells of the verdict
+
+-- whole, doubtful, clashing or lost
+pub record Kind (w : Verdict) (a b c d : Bool) : Type 0 where
+  pub whole : isWhole w ≡ a
+  pub doubtful : isDoubtful w ≡ b
+  pub clashing : isClashing w ≡ c
+  pub lost : isLost w ≡ d
+
+six-lost : (f : Refusal) → refusalNumber f ≡ 6 → f ≡ Lost
+six-lost KeyLength e = absurd (omega arith)
+six-lost SectorSize e = absurd (omega arith)
+six-lost OtherLength e = absurd (omega arith)
+six-lost UnknownSide e = absurd (omega arith)
+six-lost NoneFits e = absurd (omega arith)
+six-lost Lost e = refl
+six-lost Clashing e = absurd (omega arith)
+six-lost VolumeShape e = absurd (omega arith)
+six-lost SectorNumber e = absurd (omega arith)
+six-lost StageOrder e = absurd (omega arith)
+six-lost ListLength e = absurd (omega arith)
+
+pub tells-whole : {j : Judged} → j ≡ J.Whole → (w : Verdict) → Tells j w → Kind w true false false false
+unfolding isWhole isDoubtful isClashing isLost
+tells-whole z (whole P) e = record { whole = refl; doubtful = refl; clashing = refl; lost = refl }
+tells-whole z (doubtful d P) e = absurd (omega (arith, doubt-least d, ap judgedNumber z))
+tells-whole z lost e = absurd (omega (arith, ap judgedNumber z))
+tells-whole z clashing e = absurd (omega (arith, ap judgedNumber z))
+
+pub tells-doubtful : {j : Judged} {p : D.Place} → j ≡ J.Doubtful p → (w : Verdict) → Tells j w → Kind w false true false false
+unfolding isWhole isDoubtful isClashing isLost
+tells-doubtful {j} {p} z (whole P) e = absurd (omega (arith, place-least p, ap judgedNumber z))
+tells-doubtful z (doubtful d P) e = record { whole = refl; doubtful = refl; clashing = refl; lost = refl }
+tells-doubtful {j} {p} z lost e = absurd (omega (arith, place-least p, ap judgedNumber z))
+tells-doubtful {j} {p} z clashing e = absurd (omega (arith, place-least p, ap judgedNumber z))
+
+-- a refusal of judging: lost if it is 6, else clashing
+pub tells-refused : {j : Judged} {f : Refusal} → j ≡ J.Refused f → (w : Verdict) → Tells j w
+    → Kind w false false (not (eqb (refusalNumber f) 6)) (eqb (refusalNumber f) 6)
+unfolding isWhole isDoubtful isClashing isLost
+tells-refused {j} {f} z (whole P) e = absurd (omega (arith, refusal-range f, ap judgedNumber z))
+tells-refused {j} {f} z (doubtful d P) e = absurd (omega (arith, refusal-range f, doubt-least d, ap judgedNumber z))
+tells-refused {j} {f} z lost e =
+    let y = eq-eqb (refusalNumber f) 6 (ap judgedNumber (sym z) ∙ e) in
+    record { whole = refl; doubtful = refl; clashing = sym (ap not y); lost = sym y }
+tells-refused {j} {f} z clashing e =
+    let y = ne-eqb (refusalNumber f) 6 (λ d. omega (arith, ap judgedNumber z)) in
+    record { whole = refl; doubtful = refl; clashing = sym (ap not y); lost = sym y }
+
+pub tells-lost : {j : Judged} {f : Refusal} → j ≡ J.Refused f → f ≡ Lost → (w : Verdict) → Tells j w → Kind w false false false true
+tells-lost z d w e = tells-refused (z ∙ ap J.Refused d) w e
+
+pub tells-clashing : {j : Judged} {f : Refusal} → j ≡ J.Refused f → (f ≡ Lost → ⊥) → (w : Verdict) → Tells j w → Kind w false false true false
+tells-clashing {j} {f} z d w e =
+    subst (λ (x : Bool). Kind w false false (not x) x) (ne-eqb (refusalNumber f) 6 (λ y. d (six-lost f y))) (tells-refused z w e)
+
+-- the counts with one sector more
+pub counts-one : (w : Verdict) {a b x d : Bool} → Kind w a b x d → (c : Counts) {k l m n : ℕ}
+    → k ≡ addIf a (c .whole) → l ≡ addIf b (c .doubtful) → m ≡ addIf x (c .clashing) → n ≡ addIf d (c .lost)
+    → record { whole = k; doubtful = l; clashing = m; lost = n; health = c .health } ≡ counting w c
+counts-one w z c ek el em en = λ i. record {
+  whole = (ek ∙ ap (λ (y : Bool). addIf y (c .whole)) (sym (z .whole))) i;
+  doubtful = (el ∙ ap (λ (y : Bool). addIf y (c .doubtful)) (sym (z .doubtful))) i;
+  clashing = (em ∙ ap (λ (y : Bool). addIf y (c .clashing)) (sym (z .clashing))) i;
+  lost = (en ∙ ap (λ (y : Bool). addIf y (c .lost)) (sym (z .lost))) i;
+  health = c .health;
+}
+
+-- ---- the loop
+
+-- after the first i sectors, of a list that was `old`
+pub record Surveys (w : ℕ → Verdict) (old : List ℕ) (i : ℕ) (c : Counts) (list : List ℕ) : Type 0 where
+  pub counts : c ≡ countsOf w i 0
+  pub entries : list ≡ written w i old
+  pub size : length list ≡ length old
+  pub whole-most : c .whole ≤ i
+  pub doubtful-most : c .doubtful ≤ i
+  pub clashing-most : c .clashing ≤ i
+  pub lost-most : c .lost ≤ i
+
+-- the counts are no more than i, by what they are
+surveys : (w : ℕ → Verdict) (old : List ℕ) (i : ℕ) (c : Counts) (list : List ℕ) → c ≡ countsOf w i 0 → list ≡ written w i old → length list ≡ length old → Surveys w old i c list
+surveys w old i c list e d z = record {
+  counts = e;
+  entries = d;
+  size = z;
+  whole-most = subst (λ (x : Counts). x .whole ≤ i) (sym e) (tally-le isWhole w i);
+  doubtful-most = subst (λ (x : Counts). x .doubtful ≤ i) (sym e) (tally-le isDoubtful w i);
+  clashing-most = subst (λ (x : Counts). x .clashing ≤ i) (sym e) (tally-le isClashing w i);
+  lost-most = subst (λ (x : Counts). x .lost ≤ i) (sym e) (tally-le isLost w i);
+}
+
+module _ (w : ℕ → Verdict) (old : List ℕ) where
+  pub surveys-none : Surveys w old 0 (record { whole = 0; doubtful = 0; clashing = 0; lost = 0; health = 0 }) old
+  unfolding tally listed
+  surveys-none = surveys w old 0 _ old refl refl refl
+
+  module _ (i : ℕ) where
+    -- the next entry is behind those that are written
+    pub entry : {c : Counts} {list : List ℕ} → Surveys w old i c list → i - c .whole ≡ length (listed w i)
+    entry v = let e : _ ≡ tally isWhole w i = ap (λ (x : Counts). x .whole) (v .counts) in omega (arith, length-listed w i)
+
+    counts-next : {c d : Counts} → c ≡ countsOf w i 0 → d ≡ counting (w i) c → d ≡ countsOf w (suc i) 0
+    unfolding tally
+    counts-next e d = d ∙ ap (counting (w i)) e
+
+    list-next : length (listed w i) < length old → {list new : List ℕ} → list ≡ written w i old → new ≡ cond (isWhole (w i)) list (set list (length (listed w i)) i) → new ≡ written w (suc i) old
+    unfolding listed
+    list-next h {list} {new} e d = d ∙ go (isWhole (w i))
+      where
+        l : List ℕ
+        l = listed w i
+
+        go : (b : Bool) → cond b list (set list (length l) i) ≡ cond b l (l ++ i ∷ []) ++ drop (length (cond b l (l ++ i ∷ []))) old
+        go true = e
+        go false =
+            ap (λ (x : List ℕ). set x (length l) i) (e ∙ ap (λ (x : List ℕ). l ++ x) (drop-cons old (length l) 0 h))
+            ∙ set-at l _ (drop (suc (length l)) old) i (length l) refl
+            ∙ sym (append-assoc l (i ∷ []) (drop (suc (length l)) old))
+            ∙ ap (λ (k : ℕ). (l ++ i ∷ []) ++ drop k old) (sym (length-append l (i ∷ []) ∙ add-one (length l)))
+
+    pub surveys-next : {c d : Counts} {list new : List ℕ} (j : Judged) → Surveys w old i c list → i < length old → Tells j (w i)
+        → CountsOne j c d → ListsOne j (i - c .whole) i list new → length new ≡ length list → Surveys w old (i + 1) d new
+    surveys-next {c} {d} {list} {new} j v h e f g z =
+        let at : i - c .whole ≡ length (listed w i) = entry v in
+        let lt : length (listed w i) < length old = omega (arith, length-listed w i) in
+        let x : new ≡ cond (isWhole (w i)) list (set list (length (listed w i)) i) = g (w i) e ∙ ap (λ (k : ℕ). cond (isWhole (w i)) list (set list k i)) at in
+        subst (λ (k : ℕ). Surveys w old k d new) (sym (add-one i))
+        (surveys w old (suc i) d new (counts-next (v .counts) (f (w i) e)) (list-next lt (v .entries) x) (z ∙ v .size))
+
+  -- the health of them all
+  pub surveys-all : (n i h : ℕ) → i ≤ n → n ≤ i → {c : Counts} {list : List ℕ} → Surveys w old i c list → h ≡ health (c .whole) n
+      → surveyed w n old ≡ (counted (record { whole = c .whole; doubtful = c .doubtful; clashing = c .clashing; lost = c .lost; health = h }), list)
+  surveys-all n i h le ge {c} {list} v d =
+      let e : i ≡ n = omega arith in
+      let z : Surveys w old n c list = subst (λ (k : ℕ). Surveys w old k c list) e v in
+      ap₂ (λ (x : Counts) (l : List ℕ). (counted (record { whole = x .whole; doubtful = x .doubtful; clashing = x .clashing; lost = x .lost; health = health (x .whole) n }), l))
+      (sym (z .counts)) (sym (z .entries))
+      ∙ ap (λ (k : ℕ). (counted (record { whole = c .whole; doubtful = c .doubtful; clashing = c .clashing; lost = c .lost; health = k }), list)) (sym d)
+
+-- ---- the prepared key
+
+-- the context of another sector
+pub ready-other : {t w p : List ℕ} {m o : Context} → Ready t w p m → value (o .alpha) ≡ value (m .alpha) → value (o .beta) ≡ value (m .beta) → Ready t w p o
+ready-other z a b = record { table = z .table; rounds = z .rounds; powers = z .powers; alpha = a ∙ z .alpha; beta = b ∙ z .beta }
+
+pub verdict-by : (w p : List ℕ) (m : Context) (s i : ℕ) (l g r out new : List ℕ) (j : Judged) → value (m .tweak) ≡ tweak i
+    → judgedBy w p m (part s i l) (part 16 i g) (part s i r) out ≡ (judgedNumber j, new) → Tells j (verdictBy (schemeOf w p) s l g r i)
+verdict-by w p m s i l g r out new j em e =
+    ap (λ (x : ℕ × List ℕ). x .0) (sym e)
+    ∙ ap (λ (T : ℕ). verdictNumber (judge (schemeOf w p) T (placesOf s i l g r))) em
+
+pub survey-keyed : (k : List ℕ) (r : Prepared) → PreparedFor k r → (s n : ℕ) (l g x list : List ℕ)
+    → surveyed (verdictBy (schemeOf (r .words) (r .powers)) s l g x) n list ≡ surveyed (verdictAt (mirror (key k)) s (triple l g x)) n list
+unfolding judge grade fitsTwo fits candidate mirror
+survey-keyed k r e s n l g x list = ap (λ (S : Scheme). surveyed (verdictBy S s l g x) n list) (scheme-is k r e)
+
+-- ---- the refusals
+
+-- what passing them shows
+pub tests : (v : Triple) (k : Key) (s n room : ℕ) → firstOf (surveyRules k s n (isShape s n v) room) ≡ none → Common v k s n × (n ≤ room)
+tests v k s n room e =
+    let every : List Rule = volumeRules k s (isShape s n v) in
+    let eleven : List Rule = rule 11 (ltb room n) ∷ [] in
+    (common v k s n (none-left eleven every e), ltb-false room n (only-rule (ltb room n) 11 (none-right eleven every e)))
+
+module _ (v : Triple) (k : Key) (s n : ℕ) (list : List ℕ) where
+  abbrev rules : List Rule
+  rules = surveyRules k s n (isShape s n v) (length list)
+
+  pub survey-passes : firstOf rules ≡ none → {x : Report × List ℕ} → surveyed (verdictAt (mirror k) s v) n list ≡ x → surveyOutcome v k s n list ≡ x
+  unfolding surveyOutcome
+  survey-passes e d = ap (λ (o : Option ℕ). settleBy refused o (surveyed (verdictAt (mirror k) s v) n list) list) e ∙ d
+
+  pub survey-refused : {m : ℕ} → firstOf rules ≡ some m → surveyOutcome v k s n list ≡ (refused m, list)
+  unfolding surveyOutcome
+  survey-refused e = ap (λ (o : Option ℕ). settleBy refused o (surveyed (verdictAt (mirror k) s v) n list) list) e

@@ -1,0 +1,213 @@
+// The survey of a volume (document 01). The call takes any input and checks it for itself.
+use aes::Table;
+use mode::Context;
+use verdict::Done;
+use verdict::Judged;
+use verdict::Refusal;
+ghost use mathlib.Core.Path.{_≡_};
+ghost use Prim.Native.Nat.{_<_, _≤_};
+ghost use lib.ListN.{length};
+ghost use Rattle.mode.specs.Prepared.{Ready};
+ghost use Rattle.verdict.specs.Answers.{firstOf, doneOption};
+ghost use Rattle.verdict.specs.Judging.{schemeOf};
+ghost use Rattle.verdict.specs.Judging as C;
+ghost use Rattle.history.specs.Volume.{mirror};
+ghost use Rattle.history.specs.Volume as W;
+ghost use Rattle.images.specs.Lent.{Room, Within};
+ghost use Rattle.survey.specs.Survey.{surveyRules, verdictAt, health, counted, surveyed, reportOf, surveyOutcome};
+ghost use Rattle.survey.specs.Inner.{verdictBy, Tells, CountsOne, ListsOne};
+
+// How many sectors have each verdict, and the whole ones in thousandths.
+pub struct Counts {
+    pub whole: usize,
+    pub doubtful: usize,
+    pub clashing: usize,
+    pub lost: usize,
+    pub health: usize,
+}
+
+// What a survey answers.
+pub enum Surveyed {
+    Counted(Counts),
+    Refused(Refusal),
+}
+
+// Refusals 1, 2, 8 and 11 of a survey with a list of this length.
+fn check_survey(key: &[u8], s: usize, n: usize, l: usize, g: usize, r: usize, room: usize) -> Done
+    ensures { λ d. ⌜ firstOf (surveyRules (C.key (now (key .entry))) s n (W.shape s n l g r) room) ≡ doneOption d ⌝ }
+{
+    let checked = history::check_volume(key, s, n, l, g, r);
+    match checked {
+        Done::Done => if room < n {
+            Done::Refused(Refusal::ListLength)
+        } else {
+            Done::Done
+        },
+        Done::Refused(f) => Done::Refused(f),
+    }
+}
+
+// Judges sector i; m is the context of any sector, since only the tweak differs.
+fn judge_sector(
+    t: &Table,
+    w: &[u32],
+    powers: &[u64; 18],
+    m: Context,
+    s: usize,
+    i: usize,
+    local: &[u8],
+    tags: &[u8],
+    remote: &[u8],
+    plain: &mut [u8],
+    sum: &mut [u8],
+    work: &mut [u8],
+) -> Judged
+    requires { ⌜ Ready (now t) (now w) (now powers) m × Within s i (length (now local)) (length (now tags)) (length (now remote)) × (length (now plain) ≡ s) × (length (now sum) ≡ s) × (length (now work) ≡ s) ⌝ }
+    ensures { λ r. ⌜ Tells r (verdictBy (schemeOf (now (w .entry)) (now (powers .entry))) s (now (local .entry)) (now (tags .entry)) (now (remote .entry)) i) ⌝ }
+{
+    let c = verdict::context(m.alpha, m.beta, i as u64);
+    images::judge_part(t, w, powers, c, s, i, local, tags, remote, plain, sum, work)
+}
+
+// One more sector counted. Judging refuses nothing but lost and clashing.
+fn count_verdict(c: Counts, judged: Judged) -> Counts
+    requires { ⌜ (c .whole < 65536) × (c .doubtful < 65536) × (c .clashing < 65536) × (c .lost < 65536) ⌝ }
+    ensures { λ r. ⌜ CountsOne judged c r ⌝ }
+{
+    let mut next = c;
+    match judged {
+        Judged::Whole => {
+            next.whole += 1;
+            next
+        }
+        Judged::Doubtful(_) => {
+            next.doubtful += 1;
+            next
+        }
+        Judged::Refused(f) => match f {
+            Refusal::Lost => {
+                next.lost += 1;
+                next
+            }
+            _ => {
+                next.clashing += 1;
+                next
+            }
+        },
+    }
+}
+
+// Lists the number i at this entry, unless its sector is whole.
+fn list_number(list: &mut [u32], at: usize, i: usize, judged: Judged)
+    requires { ⌜ (at < length (now list)) × (i < 65536) ⌝ }
+    ensures { λ _. ⌜ ListsOne judged at i (now (list .entry)) (now (list .exit)) ⌝ }
+{
+    match judged {
+        Judged::Whole => {}
+        Judged::Doubtful(_) => list[at] = i as u32,
+        Judged::Refused(_) => list[at] = i as u32,
+    }
+}
+
+// The health of n sectors.
+fn thousandths(whole: usize, n: usize) -> usize
+    requires { ⌜ (whole ≤ 65536) × (1 ≤ n) ⌝ }
+    ensures { λ r. ⌜ r ≡ health whole n ⌝ }
+{
+    whole * 1000 / n
+}
+
+// The survey with a prepared key; m is the context of any sector.
+fn survey_in(
+    t: &Table,
+    w: &[u32],
+    powers: &[u64; 18],
+    m: Context,
+    s: usize,
+    n: usize,
+    local: &[u8],
+    tags: &[u8],
+    remote: &[u8],
+    list: &mut [u32],
+    plain: &mut [u8],
+    sum: &mut [u8],
+    work: &mut [u8],
+) -> Counts
+    requires { ⌜ Ready (now t) (now w) (now powers) m × Room s n (length (now local)) (length (now tags)) (length (now remote)) × (n ≤ length (now list)) × (length (now plain) ≡ s) × (length (now sum) ≡ s) × (length (now work) ≡ s) ⌝ }
+    ensures { λ r. ⌜ surveyed (verdictBy (schemeOf (now (w .entry)) (now (powers .entry))) s (now (local .entry)) (now (tags .entry)) (now (remote .entry))) n (now (list .entry)) ≡ (counted r, now (list .exit)) ⌝ }
+{
+    let mut counts = Counts {
+        whole: 0,
+        doubtful: 0,
+        clashing: 0,
+        lost: 0,
+        health: 0,
+    };
+    let mut i = 0usize;
+    while i < n {
+        let judged = judge_sector(t, w, powers, m, s, i, local, tags, remote, plain, sum, work);
+        let at = i - counts.whole;
+        list_number(list, at, i, judged);
+        let next = count_verdict(counts, judged);
+        counts = next;
+        i += 1;
+    }
+    counts.health = thousandths(counts.whole, n);
+    counts
+}
+
+fn survey_checked(
+    key: &[u8],
+    s: usize,
+    n: usize,
+    local: &[u8],
+    tags: &[u8],
+    remote: &[u8],
+    list: &mut [u32],
+) -> Counts
+    requires { ⌜ (length (now key) ≡ 32) × Room s n (length (now local)) (length (now tags)) (length (now remote)) × (n ≤ length (now list)) ⌝ }
+    ensures { λ r. ⌜ surveyed (verdictAt (mirror (C.key (now (key .entry)))) s (C.triple (now (local .entry)) (now (tags .entry)) (now (remote .entry)))) n (now (list .entry)) ≡ (counted r, now (list .exit)) ⌝ }
+{
+    let t = aes::table();
+    let k = mode::prepare(&t, key);
+    let w = k.words;
+    let powers = k.powers;
+    let m = verdict::context(k.alpha, k.beta, 0);
+    let mut plain = [0u8; 4096];
+    let mut sum = [0u8; 4096];
+    let mut work = [0u8; 4096];
+    survey_in(
+        &t,
+        &w,
+        &powers,
+        m,
+        s,
+        n,
+        local,
+        tags,
+        remote,
+        list,
+        &mut plain[..s],
+        &mut sum[..s],
+        &mut work[..s],
+    )
+}
+
+// Counts the sectors by their verdict, and lists the numbers of those that are not whole.
+pub fn survey(
+    key: &[u8],
+    s: usize,
+    n: usize,
+    local: &[u8],
+    tags: &[u8],
+    remote: &[u8],
+    list: &mut [u32],
+) -> Surveyed
+    ensures { λ r. ⌜ surveyOutcome (C.triple (now (local .entry)) (now (tags .entry)) (now (remote .entry))) (C.key (now (key .entry))) s n (now (list .entry)) ≡ (reportOf r, now (list .exit)) ⌝ }
+{
+    let checked = check_survey(key, s, n, local.len(), tags.len(), remote.len(), list.len());
+    match checked {
+        Done::Done => Surveyed::Counted(survey_checked(key, s, n, local, tags, remote, list)),
+        Done::Refused(f) => Surveyed::Refused(f),
+    }
+}
