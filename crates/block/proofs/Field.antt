@@ -2,10 +2,12 @@
 use mathlib.Core.Path.{_≡_, refl, sym, ap, ap₂, _∙_}
 use Prim.Native.Nat.{ℕ, zero, suc, _+_, _*_, _/_, _%_, _^_, _≤_, _<_}
 use native.Mathlib.Nat.{zero-add, suc-add, div-one, mod-lt, mod-one, mod-eq-of-lt, div-eq-of-lt, add-zero, le-of-suc-le, lt-of-lt-of-le}
+use native.Mathlib.Nat.{le-of-suc-le-suc, not-suc-le-zero, mul-one, mul-mod-left, pow-suc}
+use native.Mathlib.Nat as N
 use native.Mathlib.Numerals.{add-one, one-add}
 use native.Mathlib.Omega.{arith}
 use lib.Dec.{lit<, lit≤}
-use lib.Pow.{pow-pos, pow-mono, shl-lt, shr-shr, mod-pow-add}
+use lib.Pow.{pow-pos, pow-mono, shl-lt, shl-shr, shr-shr, mod-pow-add}
 use lib.Bits.{bitXor, xor-comm, xor-zero-r, xor-self, xor-lt, xor-shr, xor-mod, xor-shifted, block-half, block-odd}
 use Rattle.block.specs.FieldLaws.{FieldLaws}
 use Rattle.block.proofs.Bits.{bit-cases, bit-lt, xor-half, xor-bit, xor-assoc, xor-cancel, xor-swap, xor-shl}
@@ -178,6 +180,23 @@ mul-two-l b = ap (λ (x : ℕ). bitXor (double x) 0) (horner-one-l b 126) ∙ xo
 pub mul-three-l : (b : ℕ) → mul 3 b ≡ bitXor (double b) b
 unfolding mul horner times
 mul-three-l b = ap (λ (x : ℕ). bitXor (double x) b) (horner-one-l b 126)
+
+-- the product by x^k where nothing is to be reduced
+horner-pow : (b j : ℕ) → b < 2 ^ j → (k n : ℕ) → k < n → j + k ≤ 128 → horner b 0 n (2 ^ k) ≡ b * 2 ^ k
+unfolding horner times
+horner-pow b j h k zero p l = absurd (not-suc-le-zero p)
+horner-pow b j h zero (suc n) p l = horner-one-l b n ∙ sym (mul-one b)
+horner-pow b j h (suc k) (suc n) p l =
+    ap₂ (λ (x y : ℕ). bitXor (double (horner b 0 n x)) (times y b))
+    (ap (λ (x : ℕ). x / 2) (pow-suc 2 k) ∙ shl-shr (2 ^ k) 1) (ap (λ (x : ℕ). x % 2) (pow-suc 2 k) ∙ mul-mod-left (2 ^ k) 2)
+    ∙ xor-zero-r (double (horner b 0 n (2 ^ k)))
+    ∙ ap double (horner-pow b j h k n (le-of-suc-le-suc p) (omega arith))
+    ∙ double-small (lt-of-lt-of-le (shl-lt j k h) (pow-mono {i = j + k} {j = 127} (omega arith)))
+    ∙ N.mul-assoc b (2 ^ k) 2 ∙ ap (λ (x : ℕ). b * x) (sym (pow-suc 2 k))
+
+pub mul-pow : (k j : ℕ) {b : ℕ} → b < 2 ^ j → j + k ≤ 128 → k < 128 → mul (2 ^ k) b ≡ b * 2 ^ k
+unfolding mul
+mul-pow k j {b} h l p = horner-pow b j h k 128 p l
 
 pub mul-left-comm : (a b c : ℕ) → mul a (mul b c) ≡ mul b (mul a c)
 unfolding mul

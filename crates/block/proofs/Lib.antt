@@ -7,3 +7,5 @@ pub mod Parts
 pub mod Words
 pub mod WordBytes
 pub mod Undo
+pub mod Linear
+pub mod Squares

@@ -109,6 +109,50 @@ pub fn mul(a: Block, b: Block) -> Block
     mul_word(b, mul_word(b, zero, a.hi), a.lo)
 }
 
+// The square of a number below 2^32: its bits spread apart, bit i to bit 2i.
+fn spread(x: u64) -> u64
+    requires { ⌜ x < 2 ^ 32 ⌝ }
+    ensures { λ r. ⌜ r ≡ F.mul x x ⌝ }
+{
+    let a = (x ^ (x << 16)) & 0x0000_ffff_0000_ffff;
+    let b = (a ^ (a << 8)) & 0x00ff_00ff_00ff_00ff;
+    let c = (b ^ (b << 4)) & 0x0f0f_0f0f_0f0f_0f0f;
+    let d = (c ^ (c << 2)) & 0x3333_3333_3333_3333;
+    (d ^ (d << 1)) & 0x5555_5555_5555_5555
+}
+
+// The square of a word, which needs no reduction.
+fn square_word(w: u64) -> Block
+    ensures { λ r. ⌜ value r ≡ F.mul w w ⌝ }
+{
+    Block {
+        hi: spread(w >> 32),
+        lo: spread(w % 0x1_0000_0000),
+    }
+}
+
+// The product by 0x87, which is x^128: shifts by 1, 2 and 7, and again what these push out.
+fn times_87(b: Block) -> Block
+    ensures { λ r. ⌜ value r ≡ F.mul 0x87 (value b) ⌝ }
+{
+    let h = b.hi;
+    let l = b.lo;
+    let carry = (l >> 63) ^ (l >> 62) ^ (l >> 57);
+    let out = (h >> 63) ^ (h >> 62) ^ (h >> 57);
+    let low = l ^ out;
+    Block {
+        hi: h ^ (h << 1) ^ (h << 2) ^ (h << 7) ^ carry,
+        lo: low ^ (low << 1) ^ (low << 2) ^ (low << 7),
+    }
+}
+
+// The square: that of a sum is the sum of the squares, so each word is squared by itself.
+pub fn square(a: Block) -> Block
+    ensures { λ r. ⌜ value r ≡ F.mul (value a) (value a) ⌝ }
+{
+    xor(times_87(square_word(a.hi)), square_word(a.lo))
+}
+
 fn widen(x: u8) -> u64
     ensures { λ r. ⌜ (r ≡ x) × (r < 256) ⌝ }
 {

@@ -22,7 +22,7 @@ pub fn powers(h: Block) -> [u64; 18]
     let mut v = h;
     let mut i: usize = 0;
     while i < 8 {
-        v = block::mul(v, v);
+        v = block::square(v);
         i += 1;
         p[2 * i] = v.hi;
         p[2 * i + 1] = v.lo;

@@ -22,8 +22,8 @@ loop-holds : tie.Need-loop-holds Inv-loop μ-loop
 unfolding value
 loop-holds c = (search needs, filled-start (c .args .h .hi) (c .args .h .lo))
 
-mul-requires : tie.Need-mul-requires Inv-loop μ-loop
-mul-requires c κs = search needs
+square-requires : tie.Need-square-requires Inv-loop μ-loop
+square-requires c κs = search needs
 
 add-i : tie.Need-add-i Inv-loop μ-loop
 add-i c = search needs
@@ -54,7 +54,7 @@ loop-less c = search needs
 
 loop-again : tie.Need-loop-again Inv-loop μ-loop
 unfolding value
-loop-again c = let l = c .before .before .loop in (omega arith, filled-next _ (l .i) (l .p) _ _ _ (omega arith) (l .inv .1) (c .mul .ensures))
+loop-again c = let l = c .before .before .loop in (omega arith, filled-next _ (l .i) (l .p) _ _ _ (omega arith) (l .inv .1) (c .square .ensures))
 
 returns : tie.Need-returns Inv-loop μ-loop
 returns c = let l = c .before .loop in filled-all (l .i) _ (l .p) _ (omega arith) (l .inv .1)
@@ -68,7 +68,7 @@ powers-spec =
     array-write-p
     array-write-p-2
     loop-holds
-    mul-requires
+    square-requires
     add-i
     mul-p
     mul-p-2
