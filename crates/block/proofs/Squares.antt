@@ -52,7 +52,7 @@ module _ (j k u v : ℕ) (hu : u < 2 ^ j) (hv : v < 2 ^ k) (fits : j + k ≤ 128
 
 -- ---- 32 bits, spread apart
 
--- x ⊕ (x << k), without what the mask pushedOut out
+-- x ⊕ (x << k) under the mask m
 abbrev masked : ℕ → ℕ → ℕ → ℕ
 masked k m x = bitAnd (bitXor x (x * 2 ^ k % 2 ^ 64)) m
 
