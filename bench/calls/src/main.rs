@@ -60,11 +60,11 @@ impl Options {
         let mut rest = arguments.iter();
         while let Some(word) = rest.next() {
             match word.as_str() {
-                "--runs" => options.runs = number(rest.next().expect(USAGE)).max(1),
+                "--runs" => options.runs = number(rest.next().unwrap_or_else(usage)).max(1),
                 "--quick" => options.budget = QUICK_BUDGET,
                 "--instructions" => options.instructions = true,
-                "--plot" => options.plot = Some(rest.next().expect(USAGE).clone()),
-                _ => panic!("{USAGE}"),
+                "--plot" => options.plot = Some(rest.next().unwrap_or_else(usage).clone()),
+                _ => usage(),
             }
         }
         options
@@ -72,12 +72,18 @@ impl Options {
 }
 
 fn number(text: &str) -> usize {
-    text.parse().expect(USAGE)
+    text.parse().unwrap_or_else(|_| usage())
+}
+
+fn usage<T>() -> T {
+    eprintln!("{USAGE}");
+    std::process::exit(2)
 }
 
 fn repeat_one(case: &str, size: usize, name: &str, repeats: usize, sectors: usize) {
     let case = Case::named(case);
-    let implementation = ALL.iter().find(|one| one.name == name).expect(USAGE);
+    let implementation = ALL.iter().find(|one| one.name == name);
+    let implementation = implementation.unwrap_or_else(usage);
     measure::repeat(case, &case.volume(size, sectors), implementation, repeats);
 }
 

@@ -298,44 +298,36 @@ impl Panel {
 fn growth(svg: &mut Svg, times: &Times) {
     let title = "Growth of the library's calls (both scales logarithmic)";
     svg.text(20.0, PANEL_TOP - 40.0, 17, Anchor::Start, title);
-    let micro = |time: f64| time / 1000.0;
-    let by_size = ["seal", "judge, whole"].iter().enumerate();
-    let by_size: Vec<_> = by_size
-        .map(|(call, name)| Series {
-            name: name.to_string(),
-            points: (GROWTH_SIZES.into_iter().zip(&times.by_size))
-                .map(|(s, row)| (s as f64, micro(row[call])))
-                .collect(),
-        })
-        .collect();
+    let calls = ["seal", "judge, whole"].map(String::from);
+    let by_size = series(&calls, &GROWTH_SIZES, &times.by_size);
     let ticks = [16.0, 64.0, 256.0, 1024.0, 4096.0];
     let left = 80.0;
-    svg.text(
-        left,
-        PANEL_TOP - 12.0,
-        13,
-        Anchor::Start,
-        "a sector, against its size",
-    );
+    panel_title(svg, left, "a sector, against its size");
     Panel::new(left, &by_size).draw(svg, &by_size, &ticks, "s, bytes of a sector");
 
-    let by_count = SURVEY_SIZES.iter().enumerate();
-    let by_count: Vec<_> = by_count
-        .map(|(i, size)| Series {
-            name: format!("survey, {size} bytes a sector"),
-            points: (GROWTH_COUNTS.into_iter().zip(&times.by_count))
-                .map(|(n, row)| (n as f64, micro(row[i])))
-                .collect(),
-        })
-        .collect();
-    let left = WIDTH - PANEL_WIDTH - 30.0;
+    let surveys = SURVEY_SIZES.map(|size| format!("survey, {size} bytes a sector"));
+    let by_count = series(&surveys, &GROWTH_COUNTS, &times.by_count);
     let ticks = GROWTH_COUNTS.map(|count| count as f64);
-    svg.text(
-        left,
-        PANEL_TOP - 12.0,
-        13,
-        Anchor::Start,
-        "a survey, against the sectors",
-    );
+    let left = WIDTH - PANEL_WIDTH - 30.0;
+    panel_title(svg, left, "a survey, against the sectors");
     Panel::new(left, &by_count).draw(svg, &by_count, &ticks, "n, sectors of the volume");
+}
+
+/// A line for each name: column i of the rows, in microseconds, against `along`.
+fn series<const N: usize>(names: &[String], along: &[usize], rows: &[[f64; N]]) -> Vec<Series> {
+    let points = |i: usize| {
+        along
+            .iter()
+            .zip(rows)
+            .map(move |(&x, row)| (x as f64, row[i] / 1000.0))
+    };
+    let line = |(i, name): (usize, &String)| Series {
+        name: name.clone(),
+        points: points(i).collect(),
+    };
+    names.iter().enumerate().map(line).collect()
+}
+
+fn panel_title(svg: &mut Svg, left: f64, title: &str) {
+    svg.text(left, PANEL_TOP - 12.0, 13, Anchor::Start, title);
 }
