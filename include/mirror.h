@@ -1,5 +1,5 @@
 /*
- * mirror.h: the double ciphertext mirror (libmirror.a, x86-64 Linux; C99 or C++).
+ * mirror.h: the double ciphertext mirror (libmirror.a, x86-64 Linux; C99 or C++). SPDX-License-Identifier: Apache-2.0
  *
  * A SECTOR is kept in three places: a local sector, a tag and a remote sector. Sealing makes all three from a plaintext, under a key and
  * an address. Any two of them give the plaintext back, so damage to one place is found and can be mended.

@@ -135,9 +135,7 @@ mod rust_calls {
     ) -> u32 {
         match volume::survey(key, s, n, local, tags, remote, list) {
             Ok(found) => {
-                let kinds = [found.whole, found.doubtful, found.clashing, found.lost];
-                counts[..4].copy_from_slice(&kinds.map(|count| count as u64));
-                counts[4] = found.health as u64;
+                *counts = found.numbers();
                 0
             }
             Err(refusal) => u32::from(refusal.number()),

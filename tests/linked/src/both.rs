@@ -23,7 +23,7 @@ impl Calls for Both {
         let before = list.to_vec();
         let answer = Reference.survey(given, images, list);
         let due = match &answer {
-            Ok(survey) => (0, counts_of(survey)),
+            Ok(survey) => (0, survey.numbers()),
             Err(refusal) => (u32::from(refusal.number()), [FILL; 5]),
         };
         for survey in [crate::survey, crate::survey_without_wrapper] {
@@ -38,17 +38,6 @@ impl Calls for Both {
 
 /// What is in the counts before a survey.
 const FILL: u64 = 0x5a5a;
-
-fn counts_of(survey: &Survey) -> [u64; 5] {
-    [
-        survey.whole,
-        survey.doubtful,
-        survey.clashing,
-        survey.lost,
-        survey.health,
-    ]
-    .map(|count| count as u64)
-}
 
 type SurveyCall = fn(&[u8], usize, usize, &[u8], &[u8], &[u8], &mut [u32], &mut [u64; 5]) -> u32;
 

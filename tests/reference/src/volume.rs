@@ -183,6 +183,18 @@ pub fn survey(
 }
 
 impl Survey {
+    /// Whole, doubtful, clashing, lost and the health.
+    pub fn numbers(&self) -> [u64; 5] {
+        let Survey {
+            whole,
+            doubtful,
+            clashing,
+            lost,
+            health,
+        } = *self;
+        [whole, doubtful, clashing, lost, health].map(|number| number as u64)
+    }
+
     fn add(&mut self, verdict: Result<Verdict, Refusal>) {
         match verdict {
             Ok(Verdict::Whole) => self.whole += 1,

@@ -176,11 +176,7 @@ fn survey_by_reference(lent: &mut Arguments) -> u8 {
         &mut lent.list,
     ) {
         Ok(found) => {
-            let judged = [found.whole, found.doubtful, found.clashing, found.lost];
-            for (count, number) in lent.counts.iter_mut().zip(judged) {
-                *count = number as u64;
-            }
-            lent.counts[4] = found.health as u64;
+            *lent.counts = found.numbers();
             0
         }
         Err(refusal) => refusal.number(),
