@@ -22,7 +22,7 @@ use Rattle.verdict.specs.declared.Judged.the-variants as J
 use Rattle.verdict.specs.declared.Place as D
 use Rattle.verdict.specs.declared.Refusal.{Refusal}
 use Rattle.verdict.specs.declared.Refusal.the-variants.{KeyLength, SectorSize, OtherLength, UnknownSide, NoneFits, Lost, Clashing, VolumeShape, SectorNumber, StageOrder, ListLength}
-use Rattle.verdict.specs.Answers.{Rule, rule, firstOf, settleBy, refusalNumber, judgedNumber}
+use Rattle.verdict.specs.Answers.{Rule, rule, firstOf, settleBy, refusalNumber, placeNamed, judgedNumber}
 use Rattle.verdict.specs.Judging.{key, triple, verdictNumber, schemeOf, judgedBy}
 use Rattle.verdict.specs.Verdict.{Verdict, whole, doubtful, lost, clashing, fits, fitsTwo, candidate, grade, judge}
 use Rattle.verdict.proofs.Prepared.{scheme-is}
@@ -34,7 +34,7 @@ use Rattle.survey.specs.Survey.{tally, listed, health, countsOf, written
 use Rattle.survey.specs.Inner.{verdictBy, Tells, addIf, counting, CountsOne, ListsOne}
 use Rattle.history.specs.Volume.{isShape, volumeRules, mirror}
 use Rattle.history.proofs.Refusals.{Common, common}
-use Rattle.verdict.proofs.Numbers.{refusal-range, place-least, doubt-least}
+use Rattle.verdict.proofs.Numbers.{refusal-range, doubt-least}
 use Rattle.survey.proofs.Tallies.{tally-le, length-listed}
 
 -- ---- one sector: what the code's answer tells of the verdict
@@ -68,10 +68,10 @@ tells-whole z clashing e = absurd (omega (arith, ap judgedNumber z))
 
 pub tells-doubtful : {j : Judged} {p : D.Place} → j ≡ J.Doubtful p → (w : Verdict) → Tells j w → Kind w false true false false
 unfolding isWhole isDoubtful isClashing isLost
-tells-doubtful {j} {p} z (whole P) e = absurd (omega (arith, place-least p, ap judgedNumber z))
+tells-doubtful {j} {p} z (whole P) e = absurd (omega (arith, doubt-least (placeNamed p), ap judgedNumber z))
 tells-doubtful z (doubtful d P) e = record { whole = refl; doubtful = refl; clashing = refl; lost = refl }
-tells-doubtful {j} {p} z lost e = absurd (omega (arith, place-least p, ap judgedNumber z))
-tells-doubtful {j} {p} z clashing e = absurd (omega (arith, place-least p, ap judgedNumber z))
+tells-doubtful {j} {p} z lost e = absurd (omega (arith, doubt-least (placeNamed p), ap judgedNumber z))
+tells-doubtful {j} {p} z clashing e = absurd (omega (arith, doubt-least (placeNamed p), ap judgedNumber z))
 
 -- a refusal of judging: lost if it is 6, else clashing
 pub tells-refused : {j : Judged} {f : Refusal} → j ≡ J.Refused f → (w : Verdict) → Tells j w

@@ -65,14 +65,15 @@ refusalNumber SectorNumber = 9
 refusalNumber StageOrder = 10
 refusalNumber ListLength = 11
 
-abbrev pub placeNumber : Place → ℕ
-placeNumber Local = 0x81
-placeNumber Tag = 0x82
-placeNumber Remote = 0x83
+-- the place that the code's enum names
+abbrev pub placeNamed : Place → M.Place
+placeNamed Local = local
+placeNamed Tag = tag
+placeNamed Remote = remote
 
 abbrev pub judgedNumber : Judged → ℕ
 judgedNumber J.Whole = 0
-judgedNumber (J.Doubtful p) = placeNumber p
+judgedNumber (J.Doubtful p) = doubtNumber (placeNamed p)
 judgedNumber (J.Refused r) = refusalNumber r
 
 abbrev pub doneNumber : Done → ℕ

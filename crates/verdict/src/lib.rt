@@ -12,7 +12,7 @@ ghost use Rattle.block.specs.Value.{value};
 ghost use Rattle.mode.specs.Prepared.{Ready};
 ghost use Rattle.mode.specs.Scheme.{isSize};
 ghost use Rattle.mode.specs.Sealing.{tweak};
-ghost use Rattle.verdict.specs.Answers.{firstOf, keyRules, doneOption, refusalNumber, placeNumber, doneNumber, judgedNumber};
+ghost use Rattle.verdict.specs.Answers.{firstOf, keyRules, doneOption, doubtNumber, refusalNumber, placeNamed, doneNumber, judgedNumber};
 ghost use Rattle.verdict.specs.Judging.{schemeOf, openingOf, Lent, judgedBy, SumFits, SumFails};
 ghost use Rattle.verdict.specs.Judging as J;
 ghost use Rattle.verdict.specs.Verdict.{sideOf, openSide};
@@ -55,7 +55,7 @@ pub enum Done {
 // ---- the numbers of answers
 
 fn place_number(p: Place) -> u8
-    ensures { λ r. ⌜ r ≡ placeNumber p ⌝ }
+    ensures { λ r. ⌜ r ≡ doubtNumber (placeNamed p) ⌝ }
 {
     match p {
         Place::Local => 0x81,

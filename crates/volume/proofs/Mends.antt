@@ -8,25 +8,18 @@ use Rattle.mode.specs.Sealing.{Triple}
 use Rattle.verdict.specs.declared.Judged.{Judged}
 use Rattle.verdict.specs.declared.Judged.the-variants as J
 use Rattle.verdict.specs.declared.Place as D
-use Rattle.verdict.specs.declared.Place.the-variants.{Local, Tag, Remote}
 use Rattle.verdict.specs.declared.Refusal.{Refusal}
-use Rattle.verdict.specs.Answers.{doubtNumber, refusalNumber, placeNumber, judgedNumber}
+use Rattle.verdict.specs.Answers.{doubtNumber, refusalNumber, placeNamed, judgedNumber}
 use Rattle.verdict.specs.Judging.{verdictOutcome}
 use Rattle.verdict.specs.Verdict.{Verdict, whole, doubtful, lost, clashing}
 use Rattle.verdict.proofs.Numbers.{refusal-range, doubt-least}
-use Rattle.volume.specs.Inner.{placeNamed, mendOutcome}
+use Rattle.volume.specs.Inner.{mendOutcome}
 use Rattle.history.specs.Volume.{write}
 
 -- ---- the verdict behind a number
 
 abbrev number : ℕ × List ℕ → ℕ
 number x = x .0
-
--- the enum's place has the place's number
-place-number : (p : D.Place) → placeNumber p ≡ doubtNumber (placeNamed p)
-place-number Local = refl
-place-number Tag = refl
-place-number Remote = refl
 
 doubts-same : (p q : Place) → doubtNumber p ≡ doubtNumber q → p ≡ q
 doubts-same local local e = refl
@@ -63,10 +56,10 @@ module _ (S : Scheme) (T s i : ℕ) (x : Triple) (out o : List ℕ) where
   mend-whole v j e w = whole-mend v (e ∙ ap (λ (k : Judged). (judgedNumber k, o)) w)
 
   pub mend-doubtful : (v : Verdict) (j : Judged) (p : D.Place) → verdictOutcome v out ≡ (judgedNumber j, o) → j ≡ J.Doubtful p
-      → (n : ℕ) → n ≡ s → {y : Triple} → y ≡ write n i (placeNamed p) (on (S .sealed T o) (placeNamed p)) x → mendOutcome S T s i x v ≡ (placeNumber p, y)
+      → (n : ℕ) → n ≡ s → {y : Triple} → y ≡ write n i (placeNamed p) (on (S .sealed T o) (placeNamed p)) x → mendOutcome S T s i x v ≡ (doubtNumber (placeNamed p), y)
   mend-doubtful v j p e w n en {y} ey =
-      doubtful-mend v (placeNamed p) (e ∙ ap (λ (k : Judged). (judgedNumber k, o)) w ∙ ap (λ (n : ℕ). (n, o)) (place-number p))
-      ∙ ap₂ (λ (n : ℕ) (u : Triple). (n, u)) (sym (place-number p)) (sym (ey ∙ ap (λ (k : ℕ). write k i (placeNamed p) (on (S .sealed T o) (placeNamed p)) x) en))
+      doubtful-mend v (placeNamed p) (e ∙ ap (λ (k : Judged). (judgedNumber k, o)) w)
+      ∙ ap (λ (u : Triple). (doubtNumber (placeNamed p), u)) (sym (ey ∙ ap (λ (k : ℕ). write k i (placeNamed p) (on (S .sealed T o) (placeNamed p)) x) en))
 
   pub mend-refused : (v : Verdict) (j : Judged) (f : Refusal) → verdictOutcome v out ≡ (judgedNumber j, o) → j ≡ J.Refused f → mendOutcome S T s i x v ≡ (refusalNumber f, x)
   mend-refused v j f e w = refused-mend v f (e ∙ ap (λ (k : Judged). (judgedNumber k, o)) w)

@@ -11,10 +11,10 @@ use Rattle.verdict.specs.declared.Judged.{Judged}
 use Rattle.verdict.specs.declared.Judged.the-variants as J
 use Rattle.verdict.specs.declared.Place.{Place}
 use Rattle.verdict.specs.declared.Refusal.{Refusal}
-use Rattle.verdict.specs.Answers.{refusalNumber, placeNumber, judgedNumber}
+use Rattle.verdict.specs.Answers.{doubtNumber, refusalNumber, placeNamed, judgedNumber}
 use Rattle.verdict.specs.Judging.{verdictOutcome, schemeOf}
 use Rattle.verdict.specs.Verdict.{Verdict, whole, doubtful, lost, clashing, fits, judge}
-use Rattle.verdict.proofs.Numbers.{refusal-range, place-least, doubt-least}
+use Rattle.verdict.proofs.Numbers.{refusal-range, doubt-least}
 use Rattle.history.specs.Answers.{isWhole}
 use Rattle.images.specs.Lent.{placesOf}
 use Rattle.volume.specs.Inner.{stage, firstOutcome, secondOutcome, thirdOutcome}
@@ -40,7 +40,7 @@ pub judged-whole : (v : Verdict) (out o : List ℕ) (j : Judged) → verdictOutc
 judged-whole v out o j e w = zero-whole v out o (e ∙ ap (λ (k : Judged). (judgedNumber k, o)) w)
 
 pub judged-doubtful : (v : Verdict) (out o : List ℕ) (j : Judged) (p : Place) → verdictOutcome v out ≡ (judgedNumber j, o) → j ≡ J.Doubtful p → isWhole v ≡ false
-judged-doubtful v out o j p e w = some-not-whole v out o (placeNumber p) (e ∙ ap (λ (k : Judged). (judgedNumber k, o)) w) (omega (arith, place-least p))
+judged-doubtful v out o j p e w = some-not-whole v out o (doubtNumber (placeNamed p)) (e ∙ ap (λ (k : Judged). (judgedNumber k, o)) w) (omega (arith, doubt-least (placeNamed p)))
 
 pub judged-refused : (v : Verdict) (out o : List ℕ) (j : Judged) (f : Refusal) → verdictOutcome v out ≡ (judgedNumber j, o) → j ≡ J.Refused f → isWhole v ≡ false
 judged-refused v out o j f e w = some-not-whole v out o (refusalNumber f) (e ∙ ap (λ (k : Judged). (judgedNumber k, o)) w) (refusal-range f .0)

@@ -3,10 +3,8 @@ use mathlib.Core.Bool.{Bool, true, false, _&&_}
 use mathlib.Core.List.{List}
 use Prim.Native.Nat.{ℕ}
 use Rattle.block.specs.Bytes.{patch}
-use Rattle.mode.specs.Scheme.{Place, local, tag, remote, on, Scheme}
+use Rattle.mode.specs.Scheme.{local, tag, on, Scheme}
 use Rattle.mode.specs.Sealing.{Triple}
-use Rattle.verdict.specs.declared.Place as D
-use Rattle.verdict.specs.declared.Place.the-variants.{Local, Tag, Remote}
 use Rattle.verdict.specs.Judging.{verdictNumber}
 use Rattle.verdict.specs.Verdict.{Verdict, fits, judge}
 use Rattle.history.specs.Answers.{isWhole}
@@ -27,12 +25,6 @@ module _ (S : Scheme) (T : ℕ) (s i : ℕ) (P l g r : List ℕ) where
 
   abbrev pub thirdOutcome : ℕ × List ℕ
   thirdOutcome = stage (fits S T (placesOf s i l g r) local P && fits S T (placesOf s i l g r) tag P) (patch s i (S .sealed T P .remote) r) r
-
--- the place that an enum of the code names
-abbrev pub placeNamed : D.Place → Place
-placeNamed Local = local
-placeNamed Tag = tag
-placeNamed Remote = remote
 
 -- the number of a verdict, and the images after a mend that finds it
 abbrev pub mendOutcome : Scheme → ℕ → ℕ → ℕ → Triple → Verdict → ℕ × Triple

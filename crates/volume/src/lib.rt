@@ -12,14 +12,14 @@ ghost use lib.ListN.{length};
 ghost use Rattle.block.specs.Value.{value};
 ghost use Rattle.mode.specs.Scheme.{on};
 ghost use Rattle.mode.specs.Prepared.{Ready};
-ghost use Rattle.verdict.specs.Answers.{doneNumber, judgedNumber};
+ghost use Rattle.verdict.specs.Answers.{placeNamed, doneNumber, judgedNumber};
 ghost use Rattle.verdict.specs.Judging.{verdictOutcome, schemeOf};
 ghost use Rattle.verdict.specs.Judging as C;
 ghost use Rattle.verdict.specs.Verdict.{judge};
 ghost use Rattle.history.specs.Volume.{args, mirror, outcome, readOutcome};
 ghost use Rattle.history.specs.Volume as W;
 ghost use Rattle.images.specs.Lent.{Within, placesOf};
-ghost use Rattle.volume.specs.Inner.{firstOutcome, secondOutcome, thirdOutcome, placeNamed, mendOutcome};
+ghost use Rattle.volume.specs.Inner.{firstOutcome, secondOutcome, thirdOutcome, mendOutcome};
 
 // The first stage with a prepared key: p's local sector, if the sector is whole.
 fn first_in(

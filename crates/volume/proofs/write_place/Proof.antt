@@ -4,7 +4,7 @@ use lib.ListN.{length}
 use Rattle.mode.specs.Scheme.{on}
 use Rattle.verdict.specs.declared.Place as D
 use Rattle.verdict.specs.Judging.{triple, schemeOf}
-use Rattle.volume.specs.Inner.{placeNamed}
+use Rattle.verdict.specs.Answers.{placeNamed}
 use Rattle.history.specs.Volume.{write}
 use Rattle.images.proofs.Sealed.{local-written, tag-written, remote-written}
 use borrow.Author.Needs.{needs}
