@@ -83,7 +83,7 @@
 #define MIRROR_NONE_FITS 5u     /* no plaintext fits this side and this tag: try the other side, or judge if both are there */
 #define MIRROR_LOST 6u          /* no plaintext fits two places: check the key on other sectors; then blank, and write from a backup */
 #define MIRROR_CLASHING 7u      /* more than one plaintext fits two places: repeat the third stage if a write was under way; otherwise
-                                   open both sides, choose, blank, and write the choice */
+                                   open each side, combine both, choose, blank, and write the choice */
 #define MIRROR_VOLUME_SHAPE 8u  /* n is not 1 to 65,536, or an image has another length than s and n ask for: check s, n and the images */
 #define MIRROR_SECTOR_NUMBER 9u /* the number is not below n: sectors count from 0 */
 #define MIRROR_STAGE_ORDER 10u  /* this stage is not due: read the sector, mend it if doubtful, and begin with the first stage */

@@ -167,7 +167,7 @@ impl Refusal {
             }
             Refusal::Clashing => {
                 "repeat the third stage if a write was under way; \
-                 otherwise open both sides, choose, blank the sector and write the choice"
+                 otherwise open each side and combine both, choose, blank the sector and write the choice"
             }
             Refusal::VolumeShape => "check the size, the count and the three images",
             Refusal::SectorNumber => "sectors count from 0, so give a number below the count",
