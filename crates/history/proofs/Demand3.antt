@@ -3,8 +3,10 @@ use Rattle.mode.specs.Scheme.{Lawful, Sound, scheme}
 use Rattle.mode.specs.Sealing.{tweak}
 use Rattle.mode.proofs.Laws.{sound}
 use Rattle.history.specs.History.{Demand3}
+use Rattle.history.specs.HistoryFrom.{General}
+use Rattle.history.specs.Machine.{start}
 use Rattle.history.specs.Volume.{mirror}
-use Rattle.history.proofs.History.{history-from, history, history-any}
+use Rattle.history.proofs.History.{history-from, start-agrees, history-any}
 
 -- an address is one tweak among others
 pub mirror-sound : Sound mirror
@@ -24,9 +26,12 @@ mirror-sound = record {
       };
 }
 
+pub general : General
+general = record { from-agreeing = history-from mirror mirror-sound; from-any-lengths = history-any mirror mirror-sound }
+
 pub demand-3 : Demand3
 demand-3 = record {
-  from-agreeing = history-from mirror mirror-sound;
-  from-gone = history mirror mirror-sound;
-  from-any-lengths = history-any mirror mirror-sound;
+  from-gone = λ vol v I es m.
+      let from = general .from-agreeing vol v start (start-agrees mirror vol v I) in
+      (from .0 es m, from .1 es m .images);
 }

@@ -9,8 +9,10 @@ use borrow.Author.Tests.{eq-eqb, ne-eqb}
 use Rattle.mode.specs.Sealing.{Triple, Key}
 use Rattle.mode.specs.Scheme.{Place, Scheme, Sound}
 use Rattle.history.specs.Volume.{sectorOf, write, Args, args, Call, sector, sealing, refusal}
-use Rattle.history.specs.Machine.{Fate, Event, call, damage, called, turned, told, Held, step, hurt, State, put, machine, Volume, Takes, Images, Lent, Cuts, leavesCall, leaves, seen, Allowed, AllAllowed, run, hold}
-use Rattle.history.specs.History.{at, own, Agree, AnyBytes, Agrees}
+use Rattle.history.specs.Machine.{called, Held, step, hurt, State, put, machine}
+use Rattle.history.specs.Power.{Fate, Event, call, damage, turned, told, Volume, Takes, Images, Lent, CutOf, leavesCall, leaves, seen, Allowed, AllAllowed, run, hold}
+use Rattle.history.specs.History.{at, own}
+use Rattle.history.specs.HistoryFrom.{Agree, AnyBytes, Agrees}
 use Rattle.history.proofs.Refusals.{accepted-passed}
 use Rattle.history.proofs.Sector.{keeps-hurt}
 use Rattle.history.proofs.Images.{any-bytes, images-write, sector-write, sector-other, leaves-refused, left, held-after}
@@ -59,7 +61,7 @@ module _ (seals : Key → Scheme) (sound : Sound seals) (vol : Volume) where
           subst (λ (y : Held). Agree (vol .size) (own seals vol) j (at vol w j) y) (sym (put-other i x h j n))
           (subst (λ (t : Triple). Agree (vol .size) (own seals vol) j t (h j)) (sym (others j n)) (g .agree j lt))
 
-  accepted-step : (v : Triple) (h : State) → Agrees seals vol v h → (i : ℕ) (c : Call) (f : Fate) → refusal seals v (argsOf vol i) c ≡ none → Lent c → Cuts (vol .size) f
+  accepted-step : (v : Triple) (h : State) → Agrees seals vol v h → (i : ℕ) (c : Call) (f : Fate) → refusal seals v (argsOf vol i) c ≡ none → Lent c → CutOf (vol .size) f
       → Agrees seals vol (leavesCall seals v (argsOf vol i) c f) (machine h (seen seals vol v (call (argsOf vol i) c f)))
   accepted-step v h g i c f e l k =
       let b : AnyBytes v = any-bytes (vol .size) (vol .count) v (g .images) in
@@ -104,5 +106,5 @@ module _ (seals : Key → Scheme) (sound : Sound seals) (vol : Volume) where
       go none e =
           let s : a .size ≡ vol .size = m .0 e .size in
           subst (λ (k : ℕ). sectorOf k j (leavesCall seals v a c f) ≡ sectorOf k j v) s
-          (left seals sound v b a c f (m .1) (subst (λ (k : ℕ). Cuts k f) (sym s) (m .2)) e .others j n)
+          (left seals sound v b a c f (m .1) (subst (λ (k : ℕ). CutOf k f) (sym s) (m .2)) e .others j n)
       go (some k) e = ap (λ (u : Triple). at vol u j) (leaves-refused seals v a c f k e)

@@ -8,8 +8,10 @@ use native.Mathlib.Decide.{ℕ-discrete}
 use Rattle.mode.specs.Sealing.{Triple, Key}
 use Rattle.mode.specs.Scheme.{Place, Scheme, Sound}
 use Rattle.history.specs.Volume.{Args, Call, refusal}
-use Rattle.history.specs.Machine.{Fate, Event, call, damage, Held, gone, hurt, State, put, machine, start, Volume, Images, leavesCall, leaves, seen, Allowed, AllAllowed, run, hold}
-use Rattle.history.specs.History.{at, own, Promise, Promised, Agree, AnyBytes, Agrees, HistoryFrom, History, HistoryAny}
+use Rattle.history.specs.Machine.{Held, gone, hurt, State, put, machine, start}
+use Rattle.history.specs.Power.{Fate, Event, call, damage, Volume, Images, leavesCall, leaves, seen, Allowed, AllAllowed, run, hold}
+use Rattle.history.specs.History.{at, own, Promise, Promised}
+use Rattle.history.specs.HistoryFrom.{Agree, AnyBytes, Agrees, HistoryFrom, HistoryAny}
 use Rattle.history.proofs.Refusals.{accepted-images}
 use Rattle.history.proofs.Images.{any-bytes, bytes-write, leaves-refused}
 use Rattle.history.proofs.Events.{put-same, put-other, machine-refused, event-step, list-step}
@@ -17,11 +19,13 @@ use Rattle.history.proofs.Promises.{promised-by, promised}
 
 -- From any state in which each kept plaintext fits every place not in doubt.
 pub history-from : (seals : Key → Scheme) → Sound seals → HistoryFrom seals
-history-from seals sound vol v h g es m = promised seals sound vol (run seals vol v es) (hold seals vol v h es) (list-step seals sound vol es v h g m)
+history-from seals sound vol v h g =
+    let keeps : (es : List Event) → AllAllowed seals vol v es → Agrees seals vol (run seals vol v es) (hold seals vol v h es) = λ es m. list-step seals sound vol es v h g m in
+    (λ es m. promised seals sound vol (run seals vol v es) (hold seals vol v h es) (keeps es m), keeps)
 
--- From all gone.
-pub history : (seals : Key → Scheme) → Sound seals → History seals
-history seals sound vol v I es m = history-from seals sound vol v start (record { images = I; agree = λ i lt. tt }) es m
+-- All gone agrees with any images.
+pub start-agrees : (seals : Key → Scheme) (vol : Volume) (v : Triple) → Images (vol .size) (vol .count) v → Agrees seals vol v start
+start-agrees seals vol v I = record { images = I; agree = λ i lt. tt }
 
 -- ---- images of any lengths: no call is accepted until damage has made the lengths right, and till then all stays gone
 

@@ -10,12 +10,13 @@ use Rattle.mode.specs.Sealing.{Triple, Key}
 use Rattle.mode.specs.Scheme.{Place, local, tag, remote, on, wide, Scheme, Sector, Lawful, Sound}
 use Rattle.verdict.specs.Verdict.{Fits, Means, judge}
 use Rattle.history.specs.Volume.{sectorOf, store, write, writeAll, Args, Call, first, second, third, read, writes, unless, sector, sealing, refusal, after}
-use Rattle.history.specs.Machine.{Fate, finished, lands, Held, step, told, Images, Lent, Cuts, leavesCall}
-use Rattle.history.specs.History.{Agree, AnyBytes}
+use Rattle.history.specs.Machine.{Held, step}
+use Rattle.history.specs.Power.{Fate, finished, cut, told, Images, Lent, CutOf, leavesCall}
+use Rattle.history.specs.HistoryFrom.{Agree, AnyBytes}
 use Rattle.block.proofs.Parts.{bytes-part, bytes-patch, length-part, length-patch, part-patch, part-other}
 use Rattle.verdict.proofs.JudgeExact.{same-place, judge-means}
 use Rattle.history.proofs.Refusals.{Common, Passed, refusal-none, accepted-passed, accepted-images, sized}
-use Rattle.history.proofs.Sector.{on-store, on-store-other, storeAll, sectorAfter, AllPlain, writes-plain, keeps}
+use Rattle.history.proofs.Sector.{on-store, on-store-other, lands, storeAll, sectorAfter, AllPlain, writes-plain, keeps}
 
 -- ---- writing to a sector
 
@@ -98,24 +99,23 @@ module _ (seals : Key → Scheme) (v : Triple) (a : Args) (c : Call) where
       (lands f (sealing seals a .sealed (a .number) (writes (a .size) (sealing seals a) (a .number) (sector v a) c .plain)) (sector v a))
       (writes (a .size) (sealing seals a) (a .number) (sector v a) c .places) v
 
+  pub after-accepted : refusal seals v a c ≡ none → after seals v a c ≡ accepted finished
+  unfolding after
+  after-accepted e = ap (λ (r : Option ℕ). unless r v (accepted finished)) e
+
+  pub after-refused : (k : ℕ) → refusal seals v a c ≡ some k → after seals v a c ≡ v
+  unfolding after
+  after-refused k e = ap (λ (r : Option ℕ). unless r v (accepted finished)) e
+
   pub leaves-accepted : (f : Fate) → refusal seals v a c ≡ none → leavesCall seals v a c f ≡ accepted f
   unfolding leavesCall
-  leaves-accepted f e = ap (λ (r : Option ℕ). unless r v (accepted f)) e
+  leaves-accepted finished e = after-accepted e
+  leaves-accepted (cut k) e = ap (λ (r : Option ℕ). unless r v (accepted (cut k))) e
 
   pub leaves-refused : (f : Fate) (k : ℕ) → refusal seals v a c ≡ some k → leavesCall seals v a c f ≡ v
   unfolding leavesCall
-  leaves-refused f k e = ap (λ (r : Option ℕ). unless r v (accepted f)) e
-
-  -- the event of a finished call leaves what the call leaves
-  pub after-finished : leavesCall seals v a c finished ≡ after seals v a c
-  unfolding leavesCall after
-  after-finished = refl
-
-  pub after-accepted : refusal seals v a c ≡ none → after seals v a c ≡ accepted finished
-  after-accepted e = sym after-finished ∙ leaves-accepted finished e
-
-  pub after-refused : (k : ℕ) → refusal seals v a c ≡ some k → after seals v a c ≡ v
-  after-refused k e = sym after-finished ∙ leaves-refused finished k e
+  leaves-refused finished k e = after-refused k e
+  leaves-refused (cut t) k e = ap (λ (r : Option ℕ). unless r v (accepted (cut t))) e
 
 -- an accepted stage is one write: to the place that is its own, in the sector that it names
 module _ (seals : Key → Scheme) (v : Triple) (a : Args) (P : List ℕ) where
@@ -148,7 +148,7 @@ module _ (seals : Key → Scheme) (sound : Sound seals) where
   pub passed-lawful : (v : Triple) (a : Args) → Common v (a .key) (a .size) (a .count) → Lawful (a .size) (sealing seals a)
   passed-lawful v a p = sound .lawful (a .key) (a .size) (p .key) (p .size)
 
-  module _ (v : Triple) (b : AnyBytes v) (a : Args) (c : Call) (f : Fate) (lent : Lent c) (cuts : Cuts (a .size) f) (e : refusal seals v a c ≡ none) where
+  module _ (v : Triple) (b : AnyBytes v) (a : Args) (c : Call) (f : Fate) (lent : Lent c) (cuts : CutOf (a .size) f) (e : refusal seals v a c ≡ none) where
     passed : Passed v a c
     passed = accepted-passed seals v a c e
 
@@ -182,6 +182,7 @@ module _ (seals : Key → Scheme) (sound : Sound seals) where
     pub means-before : Means (a .size) (sealing seals a) (a .number) (sector v a) (judge (sealing seals a) (a .number) (sector v a))
     means-before = judge-means (a .size) (sealing seals a) (passed-lawful v a (passed .common)) (a .number) (sector v a) here
 
-  -- an accepted first stage, finished, leaves a local place that its plaintext fits
-  pub first-landed : (v : Triple) → AnyBytes v → (a : Args) (P : List ℕ) → Bytes P → refusal seals v a (first P) ≡ none → Fits (sealing seals a) (a .number) (sector (leavesCall seals v a (first P) finished) a) local P
+  -- an accepted first stage leaves a local place that its plaintext fits
+  pub first-landed : (v : Triple) → AnyBytes v → (a : Args) (P : List ℕ) → Bytes P → refusal seals v a (first P) ≡ none → Fits (sealing seals a) (a .number) (sector (after seals v a (first P)) a) local P
+  unfolding leavesCall
   first-landed v b a P l e = ap (λ (t : Triple). t .local) (left v b a (first P) finished l tt e .mine)

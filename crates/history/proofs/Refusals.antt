@@ -15,8 +15,8 @@ use Rattle.mode.specs.Scheme.{Place, local, tag, remote, on, wide, isKey, isSiz
 use Rattle.verdict.specs.Answers.{Rule, rule, firstOf}
 use Rattle.history.specs.Answers.{refused, reply}
 use Rattle.history.specs.Volume.{Args, Call, blank, first, second, third, mend, read, shape, isShape, volumeRules, sectorRules, lengths, early, late, result, sector, sealing, refusal, answer}
-use Rattle.history.specs.Machine.{Images, Lent}
-use Rattle.history.specs.History.{AnyBytes}
+use Rattle.history.specs.Power.{Images, Lent}
+use Rattle.history.specs.HistoryFrom.{AnyBytes}
 use Rattle.block.proofs.Lists.{and-left, and-right}
 use Rattle.verdict.proofs.Rules.{cond-none, only-rule, first-none, first-some, none-left, none-right}
 

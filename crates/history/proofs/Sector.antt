@@ -12,10 +12,11 @@ use Rattle.mode.specs.Sealing.{Triple}
 use Rattle.mode.specs.Scheme.{Place, local, tag, remote, on, wide, Scheme, Sector, Lawful}
 use Rattle.verdict.specs.Verdict.{Fits, FitsTwo, Verdict, whole, doubtful, lost, clashing, Means, fits, judge}
 use Rattle.verdict.specs.Answers.{rule, firstOf}
-use Rattle.history.specs.Answers.{isWhole, isLost, isClashing, unjudged}
-use Rattle.history.specs.Volume.{store, Call, blank, first, second, third, mend, read, late, mends, writes}
-use Rattle.history.specs.Machine.{Cut, Fate, finished, cut, lands, broken, Held, gone, kept, step, hurt, isPlace, told, Cuts}
-use Rattle.history.specs.History.{Agree}
+use Rattle.history.specs.Answers.{isWhole}
+use Rattle.history.specs.Volume.{store, Call, blank, first, second, third, mend, read, judgeRules, late, mends, writes}
+use Rattle.history.specs.Machine.{broken, Held, gone, kept, step, hurt, isPlace}
+use Rattle.history.specs.Power.{Cut, Fate, finished, cut, CutOf, torn, told}
+use Rattle.history.specs.HistoryFrom.{Agree}
 use Rattle.block.proofs.Lists.{clash, false-true, and-left, and-right, and-both, plain-zeros}
 use Rattle.history.proofs.Options.{none-some}
 use Rattle.verdict.proofs.JudgeExact.{same-place, FitsBut, fits-Fits, Fits-fits, two-but, but-two, but-miss, one-for-all, judge-means, means-once}
@@ -26,6 +27,11 @@ use Rattle.history.proofs.Refusals.{Sized}
 abbrev pub storeAll : (Place → List ℕ) → List Place → Triple → Triple
 storeAll b [] t = t
 storeAll b (p ∷ ps) t = storeAll b ps (store p (b p) t)
+
+-- the bytes in a place that a call with this fate writes, of those that it writes and those that it found
+abbrev pub lands : Fate → Triple → Triple → Place → List ℕ
+lands finished written found p = on written p
+lands (cut k) written found p = torn k written found p
 
 -- what a call on sector i with this fate, if it is not refused, leaves in its places t
 abbrev pub sectorAfter : ℕ → Scheme → ℕ → Triple → Call → Fate → Triple
@@ -97,28 +103,28 @@ AllPlain s b [] = Unit {0}
 AllPlain s b (p ∷ ps) = Plain (wide s p) (b p) × AllPlain s b ps
 
 module _ (s : ℕ) (S : Scheme) (L : Lawful s S) (i : ℕ) (t : Triple) (σ : Sector s t) where
-  lands-plain : (f : Fate) → Cuts s f → (P : List ℕ) → Plain s P → (p : Place) → Plain (wide s p) (lands f (S .sealed i P) t p)
+  lands-plain : (f : Fate) → CutOf s f → (P : List ℕ) → Plain s P → (p : Place) → Plain (wide s p) (lands f (S .sealed i P) t p)
   lands-plain finished l P h p = L .shape i P h .places p
   lands-plain (cut k) l P h local = l .0
-  lands-plain (cut k) l P h tag = go (k .new)
+  lands-plain (cut k) l P h tag = go (k .newTag)
     where
       go : (b : Bool) → Plain 16 (cond b (S .sealed i P .tag) (t .tag))
       go true = L .shape i P h .places tag
       go false = σ .places tag
   lands-plain (cut k) l P h remote = l .1
 
-  lands-all : (f : Fate) → Cuts s f → (P : List ℕ) → Plain s P → (ps : List Place) → AllPlain s (lands f (S .sealed i P) t) ps
+  lands-all : (f : Fate) → CutOf s f → (P : List ℕ) → Plain s P → (ps : List Place) → AllPlain s (lands f (S .sealed i P) t) ps
   lands-all f l P h [] = tt
   lands-all f l P h (p ∷ ps) = (lands-plain f l P h p, lands-all f l P h ps)
 
-  mends-plain : (f : Fate) → Cuts s f → (w : Verdict) → Means s S i t w → AllPlain s (lands f (S .sealed i (mends w .plain)) t) (mends w .places)
+  mends-plain : (f : Fate) → CutOf s f → (w : Verdict) → Means s S i t w → AllPlain s (lands f (S .sealed i (mends w .plain)) t) (mends w .places)
   mends-plain f l (whole Q) m = lands-all f l Q (m .0) (mends (whole Q) .places)
   mends-plain f l (doubtful q Q) m = lands-all f l Q (m .0) (mends (doubtful q Q) .places)
   mends-plain f l lost m = tt
   mends-plain f l clashing m = tt
 
   -- what lands in a place has that place's length
-  pub writes-plain : (c : Call) (f : Fate) → Cuts s f → Sized s c → AllPlain s (lands f (S .sealed i (writes s S i t c .plain)) t) (writes s S i t c .places)
+  pub writes-plain : (c : Call) (f : Fate) → CutOf s f → Sized s c → AllPlain s (lands f (S .sealed i (writes s S i t c .plain)) t) (writes s S i t c .places)
   writes-plain blank f l z = lands-all f l (replicate s 0) (plain-zeros s) (writes s S i t blank .places)
   writes-plain (first P) f l z = lands-all f l P z (writes s S i t (first P) .places)
   writes-plain (second P) f l z = lands-all f l P z (writes s S i t (second P) .places)
@@ -167,7 +173,7 @@ module _ (s : ℕ) (S : Scheme) (L : Lawful s S) (i : ℕ) (t : Triple) (σ : Se
   keeps-first Q finished gone e g = tt
   keeps-first Q (cut k) gone e g = tt
   keeps-first Q finished (kept P d) e g = local-only (S .sealed i Q .local) P (g .0) (first-whole Q P d e g)
-  keeps-first Q (cut k) (kept P d) e g = local-only (k .local) P (g .0) (first-whole Q P d e g)
+  keeps-first Q (cut k) (kept P d) e g = local-only (k .inLocal) P (g .0) (first-whole Q P d e g)
 
   second-local : (P : List ℕ) → firstOf (late S i t (second P)) ≡ none → Fits S i t local P
   second-local P e = fits-Fits S i t local P (not-false (fits S i t local P) (only-rule (not (fits S i t local P)) 10 e))
@@ -191,7 +197,7 @@ module _ (s : ℕ) (S : Scheme) (L : Lawful s S) (i : ℕ) (t : Triple) (σ : Se
 
   keeps-second : (P : List ℕ) (f : Fate) (x : Held) → Plain s P → firstOf (late S i t (second P)) ≡ none → Agree s S i t x → Keeps (second P) f x
   keeps-second P finished x h e g = tagged (S .sealed i P .tag) P h (second-local P e) refl
-  keeps-second P (cut k) x h e g = second-cut P x h (second-local P e) g (k .new) (fits S i (retagged P (k .new)) tag P) refl
+  keeps-second P (cut k) x h e g = second-cut P x h (second-local P e) g (k .newTag) (fits S i (retagged P (k .newTag)) tag P) refl
 
   third-fits : (P : List ℕ) → firstOf (late S i t (third P)) ≡ none → Fits S i t local P × Fits S i t tag P
   third-fits P e =
@@ -216,8 +222,7 @@ module _ (s : ℕ) (S : Scheme) (L : Lawful s S) (i : ℕ) (t : Triple) (σ : Se
   abbrev mended : Verdict → Fate → Triple
   mended w f = storeAll (lands f (S .sealed i (mends w .plain)) t) (mends w .places) t
 
-  mend-finished : (w : Verdict) → Means s S i t w → firstOf (unjudged w) ≡ none → (P : List ℕ) (d : Option Place) → Agree s S i t (kept P d) → Agree s S i (mended w finished) (kept P none)
-  unfolding isLost isClashing
+  mend-finished : (w : Verdict) → Means s S i t w → firstOf (judgeRules w) ≡ none → (P : List ℕ) (d : Option Place) → Agree s S i t (kept P d) → Agree s S i (mended w finished) (kept P none)
   mend-finished (whole Q) m e P d g = (g .0, λ p n. agree-whole P Q d g m p)
   mend-finished (doubtful q Q) m e P d g = (g .0, λ p n. fit p (same-place p q))
     where
@@ -230,8 +235,7 @@ module _ (s : ℕ) (S : Scheme) (L : Lawful s S) (i : ℕ) (t : Triple) (σ : Se
   mend-finished lost m e P d g = absurd (m P (g .0) (agree-two s S i t P d g))
   mend-finished clashing m e P d g = clash refl (only-rule true 7 e)
 
-  mend-cut : (w : Verdict) (k : Cut) → Means s S i t w → firstOf (unjudged w) ≡ none → (P : List ℕ) (d : Option Place) → Agree s S i t (kept P d) → Agree s S i (mended w (cut k)) (kept P d)
-  unfolding isLost isClashing
+  mend-cut : (w : Verdict) (k : Cut) → Means s S i t w → firstOf (judgeRules w) ≡ none → (P : List ℕ) (d : Option Place) → Agree s S i t (kept P d) → Agree s S i (mended w (cut k)) (kept P d)
   mend-cut (whole Q) k m e P d g = g
   mend-cut (doubtful q Q) k m e P d g = (g .0, fit)
     where

@@ -1,10 +1,10 @@
 -- The answers of the calls on a volume. Assumes nothing: these are definitions.
 use mathlib.Core.Bool.{Bool, true, false}
-use mathlib.Core.List.{List, [], _∷_}
+use mathlib.Core.List.{List}
 use mathlib.Core.Option.{Option, none, some}
 use Prim.Native.Nat.{ℕ}
 use Rattle.mode.specs.Scheme.{Place}
-use Rattle.verdict.specs.Answers.{Rule, rule, doubtNumber}
+use Rattle.verdict.specs.Answers.{foundNumber}
 use Rattle.verdict.specs.Verdict.{Verdict, whole, doubtful, lost, clashing}
 
 pub data Answer : Type 0 where
@@ -44,28 +44,13 @@ isClashing (doubtful d P) = false
 isClashing lost = false
 isClashing clashing = true
 
--- refusals 6 and 7
-abbrev pub unjudged : Verdict → List Rule
-unjudged w = rule 6 (isLost w) ∷ rule 7 (isClashing w) ∷ []
-
--- what judging gives
-abbrev pub judgeAnswer : Verdict → Answer
-judgeAnswer (whole P) = gives none P
-judgeAnswer (doubtful d P) = gives (some d) P
-judgeAnswer lost = refused 6
-judgeAnswer clashing = refused 7
-
 -- ---- numbers, and the output of a call
-
-abbrev pub stateNumber : Option Place → ℕ
-stateNumber none = 0
-stateNumber (some p) = doubtNumber p
 
 abbrev pub answerNumber : Answer → ℕ
 answerNumber (refused n) = n
 answerNumber done = 0
-answerNumber (gives d P) = stateNumber d
-answerNumber (found d) = stateNumber d
+answerNumber (gives d P) = foundNumber d
+answerNumber (found d) = foundNumber d
 
 -- what a call leaves in its output, which was `out`
 abbrev pub output : Answer → List ℕ → List ℕ

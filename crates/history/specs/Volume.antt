@@ -9,9 +9,10 @@ use lib.ListN.{length, replicate}
 use Rattle.block.specs.Bytes.{part, patch}
 use Rattle.mode.specs.Sealing.{Triple, Key, tweak}
 use Rattle.mode.specs.Scheme.{Place, local, tag, remote, on, wide, isSize, Scheme, scheme}
-use Rattle.verdict.specs.Verdict.{Verdict, whole, doubtful, lost, clashing, fits, judge}
-use Rattle.verdict.specs.Answers.{keyRules, Rule, rule, firstOf}
-use Rattle.history.specs.Answers.{Answer, refused, done, found, reply, isWhole, unjudged, judgeAnswer, answerNumber, output}
+use Rattle.verdict.specs.Verdict.{Verdict, fits, judge}
+use Rattle.verdict.specs.Judging.{verdictRefusal, verdictDoubt, verdictPlain}
+use Rattle.verdict.specs.Answers.{keyRules, Rule, rule, firstOf, rulesOf}
+use Rattle.history.specs.Answers.{Answer, done, gives, found, reply, isWhole, answerNumber, output}
 
 -- ---- three images
 
@@ -87,6 +88,10 @@ lengths a (read o) = lengthRules o (a .size)
 unfoldable pub early : Triple → Args → Call → List Rule
 early v a c = sectorRules (isShape (a .size) (a .count) v) a ++ lengths a c
 
+-- the refusal of judging, if it refuses
+abbrev pub judgeRules : Verdict → List Rule
+judgeRules w = rulesOf (verdictRefusal w)
+
 -- the last refusals, of the three places t of sector i
 abbrev pub late : Scheme → ℕ → Triple → Call → List Rule
 late S i t blank = []
@@ -97,8 +102,8 @@ late S i t (second P) = rule 10 (not (fits S i t local P)) ∷ []
 -- 10: P does not fit local and tag
 late S i t (third P) = rule 10 (not (fits S i t local P && fits S i t tag P)) ∷ []
 -- 6 and 7
-late S i t mend = unjudged (judge S i t)
-late S i t (read o) = unjudged (judge S i t)
+late S i t mend = judgeRules (judge S i t)
+late S i t (read o) = judgeRules (judge S i t)
 
 -- ---- writes
 
@@ -107,12 +112,13 @@ pub record Writes : Type 0 where
   pub plain : List ℕ
   pub places : List Place
 
+abbrev pub doubtfulPlaces : Option Place → List Place
+doubtfulPlaces none = []
+doubtfulPlaces (some p) = p ∷ []
+
 -- a mend writes the doubtful place as the one plaintext seals
 abbrev pub mends : Verdict → Writes
-mends (whole P) = record { plain = P; places = [] }
-mends (doubtful d P) = record { plain = P; places = d ∷ [] }
-mends lost = record { plain = []; places = [] }
-mends clashing = record { plain = []; places = [] }
+mends w = record { plain = verdictPlain w; places = doubtfulPlaces (verdictDoubt w) }
 
 abbrev pub writes : ℕ → Scheme → ℕ → Triple → Call → Writes
 -- zeros into all three places
@@ -128,26 +134,20 @@ writes s S i t (read o) = record { plain = []; places = [] }
 
 -- ---- answers
 
--- a mend answers the verdict that it found
-abbrev pub mendAnswer : Verdict → Answer
-mendAnswer (whole P) = found none
-mendAnswer (doubtful d P) = found (some d)
-mendAnswer lost = refused 6
-mendAnswer clashing = refused 7
-
 -- what a call answers that is not refused
 abbrev pub result : Scheme → ℕ → Triple → Call → Answer
 result S i t blank = done
 result S i t (first P) = done
 result S i t (second P) = done
 result S i t (third P) = done
-result S i t mend = mendAnswer (judge S i t)
-result S i t (read o) = judgeAnswer (judge S i t)
+-- a mend answers the verdict that it found, a read gives the plaintext too
+result S i t mend = found (verdictDoubt (judge S i t))
+result S i t (read o) = gives (verdictDoubt (judge S i t)) (verdictPlain (judge S i t))
 
--- the old images if a call is refused, else the new
+-- the images as they were if a call is refused, else as its writes leave them
 abbrev pub unless : Option ℕ → Triple → Triple → Triple
-unless none old new = new
-unless (some k) old new = old
+unless none before after = after
+unless (some k) before after = before
 
 -- the call's sector
 abbrev pub sector : Triple → Args → Triple
@@ -171,14 +171,14 @@ module _ (seals : Key → Scheme) where
       let w = writes (a .size) (sealing a) (a .number) (sector v a) c in
       unless (refusal v a c) v (writeAll (a .size) (a .number) (on (sealing a .sealed (a .number) (w .plain))) (w .places) v)
 
+  -- ---- what a caller gets: the number of the answer, and the images or the output afterwards
+
+  unfoldable pub outcome : Triple → Args → Call → ℕ × Triple
+  outcome v a c = (answerNumber (answer v a c), after v a c)
+
+  unfoldable pub readOutcome : Triple → Args → List ℕ → ℕ × List ℕ
+  readOutcome v a out = let r = answer v a (read (length out)) in (answerNumber r, output r out)
+
 -- the mode with an address for the tweak
 unfoldable pub mirror : Key → Scheme
 mirror k = record { sealed = λ address. scheme k .sealed (tweak address); openLocal = scheme k .openLocal; openRemote = scheme k .openRemote }
-
--- ---- the calls of the library: the number of the answer, and the images or the output afterwards
-
-unfoldable pub outcome : Triple → Args → Call → ℕ × Triple
-outcome v a c = (answerNumber (answer mirror v a c), after mirror v a c)
-
-unfoldable pub readOutcome : Triple → Args → List ℕ → ℕ × List ℕ
-readOutcome v a out = let r = answer mirror v a (read (length out)) in (answerNumber r, output r out)

@@ -9,7 +9,7 @@ ghost use Rattle.verdict.specs.Answers.{doneNumber, judgedNumber};
 ghost use Rattle.verdict.specs.Judging.{key, triple};
 ghost use Rattle.sector.specs.Calls.{sealCall, judgeCall, openCall, rebuildCall, combineCall};
 ghost use Rattle.verdict.specs.Judging as C;
-ghost use Rattle.history.specs.Volume.{args, outcome, readOutcome};
+ghost use Rattle.history.specs.Volume.{args, mirror, outcome, readOutcome};
 ghost use Rattle.history.specs.Volume as W;
 ghost use Rattle.survey.specs.Survey.{surveyOutcome};
 ghost use Rattle.mirror.specs.Survey.{numbers, surveyResult};
@@ -99,7 +99,7 @@ pub extern "C" fn mirror_blank(
     tags: &mut [u8],
     remote: &mut [u8],
 ) -> u32
-    ensures { λ r. ⌜ outcome (triple (now (local .entry)) (now (tags .entry)) (now (remote .entry))) (args (C.key (now (key .entry))) s n number) W.blank ≡ (r, triple (now (local .exit)) (now (tags .exit)) (now (remote .exit))) ⌝ }
+    ensures { λ r. ⌜ outcome mirror (triple (now (local .entry)) (now (tags .entry)) (now (remote .entry))) (args (C.key (now (key .entry))) s n number) W.blank ≡ (r, triple (now (local .exit)) (now (tags .exit)) (now (remote .exit))) ⌝ }
 {
     done_number(volume::blank(key, s, n, number, local, tags, remote))
 }
@@ -115,7 +115,7 @@ pub extern "C" fn mirror_first_stage(
     tags: &[u8],
     remote: &[u8],
 ) -> u32
-    ensures { λ r. ⌜ outcome (triple (now (local .entry)) (now (tags .entry)) (now (remote .entry))) (args (C.key (now (key .entry))) s n number) (W.first (now (plain .entry))) ≡ (r, triple (now (local .exit)) (now (tags .entry)) (now (remote .entry))) ⌝ }
+    ensures { λ r. ⌜ outcome mirror (triple (now (local .entry)) (now (tags .entry)) (now (remote .entry))) (args (C.key (now (key .entry))) s n number) (W.first (now (plain .entry))) ≡ (r, triple (now (local .exit)) (now (tags .entry)) (now (remote .entry))) ⌝ }
 {
     done_number(volume::first_stage(key, s, n, number, plain, local, tags, remote))
 }
@@ -131,7 +131,7 @@ pub extern "C" fn mirror_second_stage(
     tags: &mut [u8],
     remote: &[u8],
 ) -> u32
-    ensures { λ r. ⌜ outcome (triple (now (local .entry)) (now (tags .entry)) (now (remote .entry))) (args (C.key (now (key .entry))) s n number) (W.second (now (plain .entry))) ≡ (r, triple (now (local .entry)) (now (tags .exit)) (now (remote .entry))) ⌝ }
+    ensures { λ r. ⌜ outcome mirror (triple (now (local .entry)) (now (tags .entry)) (now (remote .entry))) (args (C.key (now (key .entry))) s n number) (W.second (now (plain .entry))) ≡ (r, triple (now (local .entry)) (now (tags .exit)) (now (remote .entry))) ⌝ }
 {
     done_number(volume::second_stage(key, s, n, number, plain, local, tags, remote))
 }
@@ -147,7 +147,7 @@ pub extern "C" fn mirror_third_stage(
     tags: &[u8],
     remote: &mut [u8],
 ) -> u32
-    ensures { λ r. ⌜ outcome (triple (now (local .entry)) (now (tags .entry)) (now (remote .entry))) (args (C.key (now (key .entry))) s n number) (W.third (now (plain .entry))) ≡ (r, triple (now (local .entry)) (now (tags .entry)) (now (remote .exit))) ⌝ }
+    ensures { λ r. ⌜ outcome mirror (triple (now (local .entry)) (now (tags .entry)) (now (remote .entry))) (args (C.key (now (key .entry))) s n number) (W.third (now (plain .entry))) ≡ (r, triple (now (local .entry)) (now (tags .entry)) (now (remote .exit))) ⌝ }
 {
     done_number(volume::third_stage(key, s, n, number, plain, local, tags, remote))
 }
@@ -163,7 +163,7 @@ pub extern "C" fn mirror_read(
     remote: &[u8],
     out: &mut [u8],
 ) -> u32
-    ensures { λ r. ⌜ readOutcome (triple (now (local .entry)) (now (tags .entry)) (now (remote .entry))) (args (C.key (now (key .entry))) s n number) (now (out .entry)) ≡ (r, now (out .exit)) ⌝ }
+    ensures { λ r. ⌜ readOutcome mirror (triple (now (local .entry)) (now (tags .entry)) (now (remote .entry))) (args (C.key (now (key .entry))) s n number) (now (out .entry)) ≡ (r, now (out .exit)) ⌝ }
 {
     judged_number(volume::read(key, s, n, number, local, tags, remote, out))
 }
@@ -178,7 +178,7 @@ pub extern "C" fn mirror_mend(
     tags: &mut [u8],
     remote: &mut [u8],
 ) -> u32
-    ensures { λ r. ⌜ outcome (triple (now (local .entry)) (now (tags .entry)) (now (remote .entry))) (args (C.key (now (key .entry))) s n number) W.mend ≡ (r, triple (now (local .exit)) (now (tags .exit)) (now (remote .exit))) ⌝ }
+    ensures { λ r. ⌜ outcome mirror (triple (now (local .entry)) (now (tags .entry)) (now (remote .entry))) (args (C.key (now (key .entry))) s n number) W.mend ≡ (r, triple (now (local .exit)) (now (tags .exit)) (now (remote .exit))) ⌝ }
 {
     judged_number(volume::mend(key, s, n, number, local, tags, remote))
 }

@@ -1,5 +1,5 @@
 -- What is proved of the survey. Assumes nothing.
-use mathlib.Core.Path.{_≡_, refl, _∙_}
+use mathlib.Core.Path.{_≡_, refl, ap, _∙_}
 use mathlib.Core.Bool.{Bool, true, false}
 use mathlib.Core.List.{List}
 use mathlib.Core.Option.{none, some}
@@ -10,12 +10,14 @@ use Rattle.block.proofs.Lists.{false-true}
 use Rattle.mode.specs.Sealing.{Triple}
 use Rattle.verdict.specs.Answers.{firstOf}
 use Rattle.verdict.specs.Verdict.{Verdict, whole, doubtful, lost, clashing}
-use Rattle.history.specs.Answers.{Answer, refused, reply, isWhole, isDoubtful, isClashing, isLost, unjudged}
-use Rattle.history.specs.History.{Proper, Found, Promise, Promised, AnyBytes}
-use Rattle.history.specs.Machine.{Event, Held, gone, kept, start, Volume, AllAllowed, run, hold}
+use Rattle.history.specs.Answers.{Answer, refused, reply, isWhole, isDoubtful, isClashing, isLost, answerNumber}
+use Rattle.history.specs.History.{Proper, Found, Promise, Promised}
+use Rattle.history.specs.HistoryFrom.{AnyBytes}
+use Rattle.history.specs.Machine.{Held, gone, kept, start}
+use Rattle.history.specs.Power.{Event, Volume, AllAllowed, run, hold}
 use Rattle.survey.specs.Survey.{tally, isKept, Accepted, verdicts, SurveyFacts}
-use Rattle.history.specs.Volume.{Args, read, lengthRules, mirror}
-use Rattle.history.proofs.Demand3.{demand-3}
+use Rattle.history.specs.Volume.{Args, read, lengthRules, judgeRules, outcome, mirror}
+use Rattle.history.proofs.Demand3.{general}
 use Rattle.history.proofs.Events.{argsOf}
 use Rattle.history.proofs.Refusals.{passes-early, answer-late}
 use Rattle.survey.proofs.Surveying.{tests, survey-passes}
@@ -29,8 +31,8 @@ found-of vol v i (kept P none) e p = p .0
 found-of vol v i (kept P (some q)) e p = p .0
 
 -- a read refuses 6 where the verdict is lost
-lost-6 : (w : Verdict) (r : Answer) → isLost w ≡ true → reply (firstOf (unjudged w)) r ≡ refused 6
-unfolding isLost isClashing
+lost-6 : (w : Verdict) (r : Answer) → isLost w ≡ true → reply (firstOf (judgeRules w)) r ≡ refused 6
+unfolding isLost
 lost-6 (whole P) r e = false-true e
 lost-6 (doubtful d P) r e = false-true e
 lost-6 lost r e = refl
@@ -56,16 +58,17 @@ module _ (vol : Volume) (v : Triple) (room : ℕ) (accepted : Accepted vol v roo
       }
 
   found-not-lost : Found mirror vol v i → isLost (verdicts vol v i) ≡ false
+  unfolding outcome
   found-not-lost f = go (isLost (verdicts vol v i)) refl
     where
       go : (b : Bool) → isLost (verdicts vol v i) ≡ b → b ≡ false
-      go true e = absurd (f .never-6 a (read (vol .size)) proper (answer-late mirror v a (read (vol .size)) (proper .passes) ∙ lost-6 (verdicts vol v i) _ e))
+      go true e = absurd (f .never-6 a (read (vol .size)) proper (ap answerNumber (answer-late mirror v a (read (vol .size)) (proper .passes) ∙ lost-6 (verdicts vol v i) _ e)))
       go false e = refl
 
 module _ (vol : Volume) (v : Triple) (bytes : AnyBytes v) (es : List Event) (allowed : AllAllowed mirror vol v es) (room : ℕ) (accepted : Accepted vol (run mirror vol v es) room) where
   kept-found : (i : ℕ) → i < vol .count → isKept (hold mirror vol v start es i) ≡ true → isLost (verdicts vol (run mirror vol v es) i) ≡ false
   kept-found i lt e =
-      let promised : Promised mirror vol (run mirror vol v es) (hold mirror vol v start es) = demand-3 .from-any-lengths vol v bytes es allowed in
+      let promised : Promised mirror vol (run mirror vol v es) (hold mirror vol v start es) = general .from-any-lengths vol v bytes es allowed in
       found-not-lost vol (run mirror vol v es) room accepted i lt
       (found-of vol (run mirror vol v es) i (hold mirror vol v start es i) e (promised .held i lt))
 

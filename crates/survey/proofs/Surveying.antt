@@ -34,7 +34,7 @@ use Rattle.survey.specs.Survey.{tally, listed, health, countsOf, written
 use Rattle.survey.specs.Inner.{verdictBy, Tells, addIf, counting, CountsOne, ListsOne}
 use Rattle.history.specs.Volume.{isShape, volumeRules, mirror}
 use Rattle.history.proofs.Refusals.{Common, common}
-use Rattle.verdict.proofs.Numbers.{refusal-range, doubt-least}
+use Rattle.verdict.proofs.Numbers.{refusal-range, doubt-least, outcome-number}
 use Rattle.survey.proofs.Tallies.{tally-le, length-listed}
 
 -- ---- one sector: what the code's answer tells of the verdict
@@ -187,6 +187,7 @@ pub verdict-by : (w p : List ℕ) (m : Context) (s i : ℕ) (l g r out new : Lis
     → judgedBy w p m (part s i l) (part 16 i g) (part s i r) out ≡ (judgedNumber j, new) → Tells j (verdictBy (schemeOf w p) s l g r i)
 verdict-by w p m s i l g r out new j em e =
     ap (λ (x : ℕ × List ℕ). x .0) (sym e)
+    ∙ outcome-number (judge (schemeOf w p) (value (m .tweak)) (placesOf s i l g r)) out
     ∙ ap (λ (T : ℕ). verdictNumber (judge (schemeOf w p) T (placesOf s i l g r))) em
 
 pub survey-keyed : (k : List ℕ) (r : Prepared) → PreparedFor k r → (s n : ℕ) (l g x list : List ℕ)

@@ -16,8 +16,9 @@ use Rattle.survey.specs.declared.Counts.{Counts}
 use Rattle.survey.specs.declared.Surveyed.{Surveyed}
 use Rattle.survey.specs.declared.Surveyed.the-variants.{Counted, Refused}
 use Rattle.history.specs.Answers.{isWhole, isDoubtful, isClashing, isLost}
-use Rattle.history.specs.History.{AnyBytes}
-use Rattle.history.specs.Machine.{Event, Held, gone, kept, start, Volume, AllAllowed, run, hold}
+use Rattle.history.specs.HistoryFrom.{AnyBytes}
+use Rattle.history.specs.Machine.{Held, gone, kept, start}
+use Rattle.history.specs.Power.{Event, Volume, AllAllowed, run, hold}
 use Rattle.history.specs.Volume.{sectorOf, isShape, volumeRules, mirror}
 
 -- ---- counts and the list, from the verdict on each sector

@@ -1,5 +1,5 @@
 -- Answers and refusals: their numbers in document 01, and the enums of the code. Assumes nothing: these are definitions.
-use mathlib.Core.Bool.{Bool, not, cond}
+use mathlib.Core.Bool.{Bool, true, not, cond}
 use mathlib.Core.List.{List, [], _∷_}
 use mathlib.Core.Option.{Option, none, some}
 use Prim.Native.Nat.{ℕ}
@@ -22,6 +22,11 @@ doubtNumber local = 0x81
 doubtNumber tag = 0x82
 doubtNumber remote = 0x83
 
+-- no place in doubt is 0, for whole
+abbrev pub foundNumber : Option M.Place → ℕ
+foundNumber none = 0
+foundNumber (some p) = doubtNumber p
+
 -- ---- refusals in order
 
 -- a refusal: its number and its condition
@@ -36,6 +41,11 @@ rule k b = record { number = k; condition = b }
 abbrev pub firstOf : List Rule → Option ℕ
 firstOf [] = none
 firstOf (r ∷ rs) = cond (r .condition) (some (r .number)) (firstOf rs)
+
+-- the list with one refusal that is already decided, or none
+abbrev pub rulesOf : Option ℕ → List Rule
+rulesOf none = []
+rulesOf (some n) = rule n true ∷ []
 
 -- refusal 1
 abbrev pub keyRules : Key → List Rule

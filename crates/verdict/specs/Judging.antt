@@ -1,7 +1,8 @@
 -- What judging is lent, and what it then answers. Assumes nothing: these are definitions.
 use mathlib.Core.Path.{_≡_}
 use mathlib.Core.Bool.{true, false}
-use mathlib.Core.List.{List}
+use mathlib.Core.List.{List, []}
+use mathlib.Core.Option.{Option, none, some}
 use Prim.Native.Nat.{ℕ, _≤_, _%_}
 use lib.ListN.{length}
 use Rattle.block.specs.Bytes.{xorBytes}
@@ -12,9 +13,9 @@ use Rattle.mode.specs.declared.Context.{Context}
 use Rattle.mode.specs.declared.Direction.{Direction}
 use Rattle.mode.specs.declared.Direction.the-variants.{SealLocal, SealRemote, OpenLocal, OpenRemote}
 use Rattle.mode.specs.Prepared.{Ready}
-use Rattle.mode.specs.Scheme.{Scheme, dcm, tag, remote}
+use Rattle.mode.specs.Scheme.{Place, tag, remote, Scheme, dcm}
 use Rattle.mode.specs.Sealing.{Key, Triple}
-use Rattle.verdict.specs.Answers.{doubtNumber}
+use Rattle.verdict.specs.Answers.{foundNumber, settle}
 use Rattle.verdict.specs.Verdict.{Verdict, whole, doubtful, lost, clashing, fits, judge, Side, localSide, remoteSide}
 
 -- a key and three places, from their bytes
@@ -47,22 +48,36 @@ pub record Lent (t w p : List ℕ) (m : Context) (l g r out : List ℕ) : Type 0
   pub remote-size : length r ≡ length l
   pub out-size : length out ≡ length l
 
--- the number of a verdict
-abbrev pub verdictNumber : Verdict → ℕ
-verdictNumber (whole P) = 0
-verdictNumber (doubtful p P) = doubtNumber p
-verdictNumber lost = 6
-verdictNumber clashing = 7
+-- ---- what a verdict answers
 
--- the output afterwards, which was `out`
-abbrev pub verdictOutput : Verdict → List ℕ → List ℕ
-verdictOutput (whole P) out = P
-verdictOutput (doubtful p P) out = P
-verdictOutput lost out = out
-verdictOutput clashing out = out
+-- refusals 6 and 7
+abbrev pub verdictRefusal : Verdict → Option ℕ
+verdictRefusal (whole P) = none
+verdictRefusal (doubtful p P) = none
+verdictRefusal lost = some 6
+verdictRefusal clashing = some 7
 
+-- of a verdict that is not refused: the doubtful place, and none where it is whole
+abbrev pub verdictDoubt : Verdict → Option Place
+verdictDoubt (whole P) = none
+verdictDoubt (doubtful p P) = some p
+verdictDoubt lost = none
+verdictDoubt clashing = none
+
+-- and the plaintext
+abbrev pub verdictPlain : Verdict → List ℕ
+verdictPlain (whole P) = P
+verdictPlain (doubtful p P) = P
+verdictPlain lost = []
+verdictPlain clashing = []
+
+-- the number of a verdict, and the output afterwards, which was `out`
 abbrev pub verdictOutcome : Verdict → List ℕ → ℕ × List ℕ
-verdictOutcome w out = (verdictNumber w, verdictOutput w out)
+verdictOutcome w out = settle (verdictRefusal w) (foundNumber (verdictDoubt w), verdictPlain w) out
+
+-- the number alone
+abbrev pub verdictNumber : Verdict → ℕ
+verdictNumber w = verdictOutcome w [] .0
 
 -- what judging answers and leaves
 abbrev pub judgedBy : List ℕ → List ℕ → Context → List ℕ → List ℕ → List ℕ → List ℕ → ℕ × List ℕ

@@ -402,7 +402,7 @@ pub fn first_stage(
     tags: &[u8],
     remote: &[u8],
 ) -> Done
-    ensures { λ r. ⌜ outcome (C.triple (now (local .entry)) (now (tags .entry)) (now (remote .entry))) (args (C.key (now (key .entry))) s n i) (W.first (now (p .entry))) ≡ (doneNumber r, C.triple (now (local .exit)) (now (tags .entry)) (now (remote .entry))) ⌝ }
+    ensures { λ r. ⌜ outcome mirror (C.triple (now (local .entry)) (now (tags .entry)) (now (remote .entry))) (args (C.key (now (key .entry))) s n i) (W.first (now (p .entry))) ≡ (doneNumber r, C.triple (now (local .exit)) (now (tags .entry)) (now (remote .entry))) ⌝ }
 {
     let checked = history::check_with(key, s, n, i, local.len(), tags.len(), remote.len(), p.len());
     match checked {
@@ -422,7 +422,7 @@ pub fn second_stage(
     tags: &mut [u8],
     remote: &[u8],
 ) -> Done
-    ensures { λ r. ⌜ outcome (C.triple (now (local .entry)) (now (tags .entry)) (now (remote .entry))) (args (C.key (now (key .entry))) s n i) (W.second (now (p .entry))) ≡ (doneNumber r, C.triple (now (local .entry)) (now (tags .exit)) (now (remote .entry))) ⌝ }
+    ensures { λ r. ⌜ outcome mirror (C.triple (now (local .entry)) (now (tags .entry)) (now (remote .entry))) (args (C.key (now (key .entry))) s n i) (W.second (now (p .entry))) ≡ (doneNumber r, C.triple (now (local .entry)) (now (tags .exit)) (now (remote .entry))) ⌝ }
 {
     let checked = history::check_with(key, s, n, i, local.len(), tags.len(), remote.len(), p.len());
     match checked {
@@ -442,7 +442,7 @@ pub fn third_stage(
     tags: &[u8],
     remote: &mut [u8],
 ) -> Done
-    ensures { λ r. ⌜ outcome (C.triple (now (local .entry)) (now (tags .entry)) (now (remote .entry))) (args (C.key (now (key .entry))) s n i) (W.third (now (p .entry))) ≡ (doneNumber r, C.triple (now (local .entry)) (now (tags .entry)) (now (remote .exit))) ⌝ }
+    ensures { λ r. ⌜ outcome mirror (C.triple (now (local .entry)) (now (tags .entry)) (now (remote .entry))) (args (C.key (now (key .entry))) s n i) (W.third (now (p .entry))) ≡ (doneNumber r, C.triple (now (local .entry)) (now (tags .entry)) (now (remote .exit))) ⌝ }
 {
     let checked = history::check_with(key, s, n, i, local.len(), tags.len(), remote.len(), p.len());
     match checked {
@@ -462,7 +462,7 @@ pub fn read(
     remote: &[u8],
     out: &mut [u8],
 ) -> Judged
-    ensures { λ r. ⌜ readOutcome (C.triple (now (local .entry)) (now (tags .entry)) (now (remote .entry))) (args (C.key (now (key .entry))) s n i) (now (out .entry)) ≡ (judgedNumber r, now (out .exit)) ⌝ }
+    ensures { λ r. ⌜ readOutcome mirror (C.triple (now (local .entry)) (now (tags .entry)) (now (remote .entry))) (args (C.key (now (key .entry))) s n i) (now (out .entry)) ≡ (judgedNumber r, now (out .exit)) ⌝ }
 {
     let checked = history::check_with(
         key,
@@ -490,7 +490,7 @@ pub fn mend(
     tags: &mut [u8],
     remote: &mut [u8],
 ) -> Judged
-    ensures { λ r. ⌜ outcome (C.triple (now (local .entry)) (now (tags .entry)) (now (remote .entry))) (args (C.key (now (key .entry))) s n i) W.mend ≡ (judgedNumber r, C.triple (now (local .exit)) (now (tags .exit)) (now (remote .exit))) ⌝ }
+    ensures { λ r. ⌜ outcome mirror (C.triple (now (local .entry)) (now (tags .entry)) (now (remote .entry))) (args (C.key (now (key .entry))) s n i) W.mend ≡ (judgedNumber r, C.triple (now (local .exit)) (now (tags .exit)) (now (remote .exit))) ⌝ }
 {
     let checked = history::check(key, s, n, i, local.len(), tags.len(), remote.len());
     match checked {
@@ -509,7 +509,7 @@ pub fn blank(
     tags: &mut [u8],
     remote: &mut [u8],
 ) -> Done
-    ensures { λ r. ⌜ outcome (C.triple (now (local .entry)) (now (tags .entry)) (now (remote .entry))) (args (C.key (now (key .entry))) s n i) W.blank ≡ (doneNumber r, C.triple (now (local .exit)) (now (tags .exit)) (now (remote .exit))) ⌝ }
+    ensures { λ r. ⌜ outcome mirror (C.triple (now (local .entry)) (now (tags .entry)) (now (remote .entry))) (args (C.key (now (key .entry))) s n i) W.blank ≡ (doneNumber r, C.triple (now (local .exit)) (now (tags .exit)) (now (remote .exit))) ⌝ }
 {
     let checked = history::check(key, s, n, i, local.len(), tags.len(), remote.len());
     match checked {
