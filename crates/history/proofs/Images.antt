@@ -8,13 +8,13 @@ use lib.ListN.{length}
 use Rattle.block.specs.Bytes.{Bytes, Plain, part, patch}
 use Rattle.mode.specs.Sealing.{Triple, Key}
 use Rattle.mode.specs.Scheme.{Place, local, tag, remote, on, wide, Scheme, Sector, Lawful, Sound}
-use Rattle.verdict.specs.Verdict.{Fits, Means, judge}
-use Rattle.history.specs.Volume.{sectorOf, store, write, writeAll, Args, Call, first, second, third, read, writes, unless, sector, sealing, refusal, after}
+use Rattle.verdict.specs.Verdict.{Fits}
+use Rattle.history.specs.Volume.{sectorOf, store, write, writeAll, Args, Call, first, writes, unless, sector, sealing, refusal, after}
 use Rattle.history.specs.Machine.{Held, step}
 use Rattle.history.specs.Power.{Fate, finished, cut, told, Images, Lent, CutOf, leavesCall}
 use Rattle.history.specs.HistoryFrom.{Agree, AnyBytes}
 use Rattle.block.proofs.Parts.{bytes-part, bytes-patch, length-part, length-patch, part-patch, part-other}
-use Rattle.verdict.proofs.JudgeExact.{same-place, judge-means}
+use Rattle.verdict.proofs.JudgeExact.{same-place}
 use Rattle.history.proofs.Refusals.{Common, Passed, refusal-none, accepted-passed, accepted-images, sized}
 use Rattle.history.proofs.Sector.{on-store, on-store-other, lands, storeAll, sectorAfter, AllPlain, writes-plain, keeps}
 
@@ -32,18 +32,6 @@ bytes-write s i p b v h g q = go (same-place q p)
         subst (λ (r : Place). Bytes (on (write s i p b v) r)) (sym e)
         (subst Bytes (sym (on-store p (patch (wide s p) i b (on v p)) v)) (bytes-patch (wide s p) i (on v p) b (h p) g))
     go (inr n) = subst Bytes (sym (on-store-other p q (patch (wide s p) i b (on v p)) v n)) (h q)
-
--- writes to two different places give the same images in either order, so the order of the writes in a blank does not matter
-pub write-swap : (s i : ℕ) (p q : Place) → (p ≡ q → ⊥) → (b c : List ℕ) (v : Triple) → write s i q c (write s i p b v) ≡ write s i p b (write s i q c v)
-write-swap s i local local n b c v = absurd (n refl)
-write-swap s i local tag n b c v = refl
-write-swap s i local remote n b c v = refl
-write-swap s i tag local n b c v = refl
-write-swap s i tag tag n b c v = absurd (n refl)
-write-swap s i tag remote n b c v = refl
-write-swap s i remote local n b c v = refl
-write-swap s i remote tag n b c v = refl
-write-swap s i remote remote n b c v = absurd (n refl)
 
 module _ (s n i : ℕ) (lt : i < n) where
   pub sector-images : (v : Triple) → Images s n v → Sector s (sectorOf s i v)
@@ -117,25 +105,6 @@ module _ (seals : Key → Scheme) (v : Triple) (a : Args) (c : Call) where
   leaves-refused finished k e = after-refused k e
   leaves-refused (cut t) k e = ap (λ (r : Option ℕ). unless r v (accepted (cut t))) e
 
--- an accepted stage is one write: to the place that is its own, in the sector that it names
-module _ (seals : Key → Scheme) (v : Triple) (a : Args) (P : List ℕ) where
-  pub after-first : refusal seals v a (first P) ≡ none → after seals v a (first P) ≡ write (a .size) (a .number) local (sealing seals a .sealed (a .number) P .local) v
-  after-first e = after-accepted seals v a (first P) e
-
-  pub after-second : refusal seals v a (second P) ≡ none → after seals v a (second P) ≡ write (a .size) (a .number) tag (sealing seals a .sealed (a .number) P .tag) v
-  after-second e = after-accepted seals v a (second P) e
-
-  pub after-third : refusal seals v a (third P) ≡ none → after seals v a (third P) ≡ write (a .size) (a .number) remote (sealing seals a .sealed (a .number) P .remote) v
-  after-third e = after-accepted seals v a (third P) e
-
-pub after-read : (seals : Key → Scheme) (v : Triple) (a : Args) (o : ℕ) → after seals v a (read o) ≡ v
-unfolding after
-after-read seals v a o = go (refusal seals v a (read o))
-  where
-    go : (r : Option ℕ) → unless r v v ≡ v
-    go none = refl
-    go (some k) = refl
-
 module _ (seals : Key → Scheme) (v : Triple) (a : Args) (c : Call) (f : Fate) (w : Triple) where
   -- what the call, with its own key, s and n, leaves: the images w of the same lengths, its sector, and the others as they were
   pub record Left : Type 0 where
@@ -177,10 +146,6 @@ module _ (seals : Key → Scheme) (sound : Sound seals) where
         subst (λ (u : Triple). Agree (a .size) (sealing seals a) (a .number) u (step (a .size) c (told (sealing seals a) (a .number) u c f) x)) (sym (left .mine))
         (keeps (a .size) (sealing seals a) (passed-lawful v a (passed .common)) (a .number) (sector v a) here c f x
         (sized a c (passed .lengths) lent) (refusal-none seals v a c e .1) g)
-
-    -- the verdict before it is the document's
-    pub means-before : Means (a .size) (sealing seals a) (a .number) (sector v a) (judge (sealing seals a) (a .number) (sector v a))
-    means-before = judge-means (a .size) (sealing seals a) (passed-lawful v a (passed .common)) (a .number) (sector v a) here
 
   -- an accepted first stage leaves a local place that its plaintext fits
   pub first-landed : (v : Triple) → AnyBytes v → (a : Args) (P : List ℕ) → Bytes P → refusal seals v a (first P) ≡ none → Fits (sealing seals a) (a .number) (sector (after seals v a (first P)) a) local P

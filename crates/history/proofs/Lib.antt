@@ -7,3 +7,5 @@ pub mod Promises
 pub mod History
 pub mod Demand3
 pub mod Ranges
+pub mod Outcomes
+pub mod Meaning

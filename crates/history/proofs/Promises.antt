@@ -11,9 +11,9 @@ use Rattle.mode.specs.Scheme.{Place, local, tag, Scheme, Sector, Lawful, Sound}
 use Rattle.verdict.specs.Verdict.{Fits, FitsTwo, Verdict, whole, doubtful, lost, clashing, Means, fits, judge}
 use lib.ListN.{length}
 use Rattle.verdict.specs.Answers.{firstOf, doubtNumber, foundNumber}
-use Rattle.verdict.specs.Judging.{verdictDoubt, verdictPlain, verdictOutcome, verdictNumber}
-use Rattle.verdict.proofs.Numbers.{doubt-least, outcome-number}
-use Rattle.history.specs.Answers.{Answer, done, gives, found, reply, isWhole, answerNumber, output}
+use Rattle.verdict.specs.Judging.{verdictDoubt, verdictOutcome, verdictNumber}
+use Rattle.verdict.proofs.Numbers.{outcome-number, number-lost}
+use Rattle.history.specs.Answers.{Answer, done, found, reply, isWhole, answerNumber}
 use Rattle.history.specs.Volume.{Args, Call, blank, first, second, third, mend, read, judgeRules, late, result, sector, sealing, refusal, answer, after, outcome, readOutcome}
 use Rattle.history.specs.Machine.{Held, gone, kept, State}
 use Rattle.history.specs.Power.{Volume, Images}
@@ -24,6 +24,7 @@ use Rattle.verdict.proofs.JudgeExact.{one-for-all, judge-means}
 use Rattle.history.proofs.Refusals.{passed, refusal-late, answer-late}
 use Rattle.history.proofs.Sector.{some-inj, agree-two, agree-doubtful, judge-sure, whole-accepted}
 use Rattle.history.proofs.Images.{any-bytes, sector-images, passed-lawful, first-landed}
+use Rattle.history.proofs.Outcomes.{read-late}
 use Rattle.history.proofs.Events.{argsOf, takes-args, call-others}
 
 -- ---- numbers
@@ -35,29 +36,11 @@ number-by (doubtful d P) r e = e
 number-by lost r e = refl
 number-by clashing r e = refl
 
--- the number and the output of a read
-pub read-by : (w : Verdict) (out : List ℕ) →
-    let r = reply (firstOf (judgeRules w)) (gives (verdictDoubt w) (verdictPlain w)) in
-    (answerNumber r, output r out) ≡ verdictOutcome w out
-read-by (whole P) out = refl
-read-by (doubtful d P) out = refl
-read-by lost out = refl
-read-by clashing out = refl
-
-number-6 : (w : Verdict) → verdictNumber w ≡ 6 → w ≡ lost
-number-6 (whole P) e = absurd (omega arith)
-number-6 (doubtful d P) e = absurd (omega (arith, doubt-least d))
-number-6 lost e = refl
-number-6 clashing e = absurd (omega arith)
-
 -- ---- proper calls
 
 module _ (seals : Key → Scheme) (vol : Volume) (v : Triple) (i : ℕ) (a : Args) where
   proper-args : (c : Call) → Proper vol v i a c → a ≡ argsOf vol i
   proper-args c p = takes-args vol a (p .takes) ∙ ap (argsOf vol) (p .names)
-
-  proper-lt : (c : Call) → Proper vol v i a c → i < vol .count
-  proper-lt c p = subst (λ (b : Args). b .number < b .count) (proper-args c p) (passed v a c (p .passes) .number)
 
   -- only the last refusals can turn it away
   pub proper-refusal : (c : Call) → Proper vol v i a c → refusal seals v a c ≡ firstOf (late (own seals vol) i (at vol v i) c)
@@ -70,8 +53,9 @@ module _ (seals : Key → Scheme) (vol : Volume) (v : Triple) (i : ℕ) (a : Arg
       ∙ ap (λ (b : Args). reply (firstOf (late (sealing seals b) (b .number) (sector v b) c)) (result (sealing seals b) (b .number) (sector v b) c)) (proper-args c p)
 
   read-answer : (out : List ℕ) → ProperRead vol v i a out → readOutcome seals v a out ≡ verdictOutcome (judge (own seals vol) i (at vol v i)) out
-  unfolding readOutcome
-  read-answer out p = ap (λ (r : Answer). (answerNumber r, output r out)) (proper-answer (read (length out)) p) ∙ read-by (judge (own seals vol) i (at vol v i)) out
+  read-answer out p =
+      read-late seals v a out (p .passes)
+      ∙ ap (λ (b : Args). verdictOutcome (judge (sealing seals b) (b .number) (sector v b)) out) (proper-args (read (length out)) p)
 
   call-number : (c : Call) → Proper vol v i a c → outcome seals v a c .0 ≡ answerNumber (reply (firstOf (late (own seals vol) i (at vol v i) c)) (result (own seals vol) i (at vol v i) c))
   unfolding outcome
@@ -99,8 +83,8 @@ call-6 S i t blank e = absurd (omega arith)
 call-6 S i t (first P) e = absurd (stage-6 (not (isWhole (judge S i t))) e)
 call-6 S i t (second P) e = absurd (stage-6 (not (fits S i t local P)) e)
 call-6 S i t (third P) e = absurd (stage-6 (not (fits S i t local P && fits S i t tag P)) e)
-call-6 S i t mend e = number-6 (judge S i t) (sym (number-by (judge S i t) (result S i t mend) refl) ∙ e)
-call-6 S i t (read o) e = number-6 (judge S i t) (sym (number-by (judge S i t) (result S i t (read o)) refl) ∙ e)
+call-6 S i t mend e = number-lost (judge S i t) (sym (number-by (judge S i t) (result S i t mend) refl) ∙ e)
+call-6 S i t (read o) e = number-lost (judge S i t) (sym (number-by (judge S i t) (result S i t (read o)) refl) ∙ e)
 
 -- ---- one sector
 
@@ -168,7 +152,7 @@ module _ (seals : Key → Scheme) (sound : Sound seals) (vol : Volume) (v : Trip
   is-found P d g = record {
     not-lost = not-lost;
     never-6 = λ a c p e. not-lost (lost-here a c p (call-6 (own seals vol) i (at vol v i) c (sym (call-number seals vol v i a c p) ∙ e)));
-    read-never-6 = λ a out p e. not-lost (lost-here a (read (length out)) p (number-6 (judge (own seals vol) i (at vol v i)) (sym (read-number seals vol v i a out p) ∙ e)));
+    read-never-6 = λ a out p e. not-lost (lost-here a (read (length out)) p (number-lost (judge (own seals vol) i (at vol v i)) (sym (read-number seals vol v i a out p) ∙ e)));
   }
     where
       not-lost : Means (vol .size) (own seals vol) i (at vol v i) lost → ⊥

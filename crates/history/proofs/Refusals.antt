@@ -120,20 +120,6 @@ count-le s n v e = leb-true n 65536 (and-left (leb n 65536) _ (and-right (leb 1 
 pub shape-images : (s n : ℕ) (v : Triple) → isShape s n v ≡ true → AnyBytes v → Images s n v
 shape-images s n v e b = record { images = λ p. record { long = shape-facts s n v e .1 p; bytes = b p } }
 
--- the images' lengths decide what 8 checks
-pub shape-same : (s n s′ n′ : ℕ) (v w : Triple) → Images s n v → Images s n w → isShape s′ n′ v ≡ isShape s′ n′ w
-unfolding isShape shape
-shape-same s n s′ n′ v w I J =
-    let l : length (v .local) ≡ length (w .local) = I .images local .long ∙ sym (J .images local .long) in
-    let g : length (v .tag) ≡ length (w .tag) = I .images tag .long ∙ sym (J .images tag .long) in
-    let r : length (v .remote) ≡ length (w .remote) = I .images remote .long ∙ sym (J .images remote .long) in
-    rw (l, g, r)
-
--- so images of the same lengths have the same early refusals
-pub early-same : (s n : ℕ) (v w : Triple) → Images s n v → Images s n w → (a : Args) (c : Call) → early v a c ≡ early w a c
-unfolding early
-early-same s n v w I J a c = ap (λ (b : Bool). sectorRules b a ++ lengths a c) (shape-same s n (a .size) (a .count) v w I J)
-
 -- The images force s and n: of the calls that are not refused, only the key could be another than the volume's.
 pub forced : (s n : ℕ) (v : Triple) → Images s n v → (s′ n′ : ℕ) → isShape s′ n′ v ≡ true → (s′ ≡ s) × (n′ ≡ n)
 forced s n v I s′ n′ e =

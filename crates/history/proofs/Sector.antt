@@ -19,7 +19,7 @@ use Rattle.history.specs.Power.{Cut, Fate, finished, cut, CutOf, torn, t
 use Rattle.history.specs.HistoryFrom.{Agree}
 use Rattle.block.proofs.Lists.{clash, false-true, and-left, and-right, and-both, plain-zeros}
 use Rattle.history.proofs.Options.{none-some}
-use Rattle.verdict.proofs.JudgeExact.{same-place, FitsBut, fits-Fits, Fits-fits, two-but, but-two, but-miss, one-for-all, judge-means, means-once}
+use Rattle.verdict.proofs.JudgeExact.{same-place, FitsBut, fits-Fits, Fits-fits, but-two, but-miss, one-for-all, judge-means, means-once}
 use Rattle.verdict.proofs.Rules.{only-rule}
 use Rattle.history.proofs.Refusals.{Sized}
 
@@ -79,17 +79,7 @@ module _ (s : ℕ) (S : Scheme) (i : ℕ) (t : Triple) where
       let z : q ≡ r = but-miss S i t r q P (b .1) (λ x. m .3 (subst (λ (R : List ℕ). Fits S i t q R) e x)) in
       (e, ap some (sym z), λ p n. b .1 p (λ y. n (y ∙ sym z)))
 
-  -- what a verdict that gives a plaintext shows of it
-  pub whole-agrees : (Q : List ℕ) → Means s S i t (whole Q) → Agree s S i t (kept Q none)
-  whole-agrees Q m = (m .0, λ p n. m .1 p)
-
-  pub doubtful-agrees : (q : Place) (Q : List ℕ) → Means s S i t (doubtful q Q) → Agree s S i t (kept Q (some q))
-  doubtful-agrees q Q m =
-      let b = two-but S i t Q (m .1) in
-      let z : q ≡ b .0 = but-miss S i t (b .0) q Q (b .1) (m .3) in
-      (m .0, λ p n. b .1 p (λ y. n (ap some (z ∙ sym y))))
-
-is-whole : (w : Verdict) → isWhole w ≡ true → (Q : List ℕ) × (w ≡ whole Q)
+pub is-whole : (w : Verdict) → isWhole w ≡ true → (Q : List ℕ) × (w ≡ whole Q)
 unfolding isWhole
 is-whole (whole Q) e = (Q, refl)
 is-whole (doubtful d Q) e = false-true e

@@ -4,3 +4,4 @@ pub mod Machine
 pub mod Power
 pub mod History
 pub mod HistoryFrom
+pub mod Meaning

@@ -1,0 +1,78 @@
+-- What a caller gets, where the early checks refuse and where they pass. Assumes nothing.
+use mathlib.Core.Path.{_≡_, refl, ap, ap₂, _∙_}
+use mathlib.Core.Bool.{Bool, true, false, not, cond}
+use mathlib.Core.List.{List, [], _∷_}
+use mathlib.Core.Option.{Option, none, some}
+use Prim.Native.Nat.{ℕ}
+use lib.ListN.{length}
+use Rattle.mode.specs.Sealing.{Triple, Key}
+use Rattle.mode.specs.Scheme.{on, Scheme}
+use Rattle.verdict.specs.Answers.{rule, firstOf, foundNumber, settle}
+use Rattle.verdict.specs.Judging.{verdictRefusal, verdictDoubt, verdictPlain, verdictOutcome}
+use Rattle.verdict.specs.Verdict.{Verdict, whole, doubtful, lost, clashing, judge}
+use Rattle.history.specs.Answers.{Answer, done, gives, found, reply, answerNumber, output}
+use Rattle.history.specs.Volume.{writeAll, Args, Call, mend, read, judgeRules, early, late, mends, result, unless, sector, sealing, refusal, after, outcome, readOutcome}
+use Rattle.history.specs.Power.{finished}
+use Rattle.history.proofs.Refusals.{refusal-late, refusal-early, answer-accepted, answer-refused, answer-late, early-answer}
+use Rattle.history.proofs.Images.{accepted, after-accepted, after-refused}
+
+-- the number and the images of a mend, by the verdict that it finds
+abbrev pub mended : Scheme → ℕ → ℕ → Triple → Verdict → ℕ × Triple
+mended S s i v w = settle (verdictRefusal w) (foundNumber (verdictDoubt w), writeAll s i (on (S .sealed i (mends w .plain))) (mends w .places) v) v
+
+-- the number and the output of a read
+pub read-by : (w : Verdict) (out : List ℕ) →
+    let r = reply (firstOf (judgeRules w)) (gives (verdictDoubt w) (verdictPlain w)) in
+    (answerNumber r, output r out) ≡ verdictOutcome w out
+read-by (whole P) out = refl
+read-by (doubtful d P) out = refl
+read-by lost out = refl
+read-by clashing out = refl
+
+module _ (seals : Key → Scheme) (v : Triple) (a : Args) where
+  -- ---- refused
+
+  pub outcome-refused : (c : Call) {n : ℕ} → refusal seals v a c ≡ some n → outcome seals v a c ≡ (n, v)
+  unfolding outcome
+  outcome-refused c {n} e = ap₂ (λ (r : Answer) (w : Triple). (answerNumber r, w)) (answer-refused seals v a c n e) (after-refused seals v a c n e)
+
+  pub outcome-early : (c : Call) {n : ℕ} → firstOf (early v a c) ≡ some n → outcome seals v a c ≡ (n, v)
+  outcome-early c {n} e = outcome-refused c (refusal-early seals v a c n e)
+
+  pub read-early : (out : List ℕ) {n : ℕ} → firstOf (early v a (read (length out))) ≡ some n → readOutcome seals v a out ≡ (n, out)
+  unfolding readOutcome
+  read-early out {n} e = ap (λ (r : Answer). (answerNumber r, output r out)) (early-answer seals v a (read (length out)) n e)
+
+  -- ---- done
+
+  pub outcome-done : (c : Call) → refusal seals v a c ≡ none → result (sealing seals a) (a .number) (sector v a) c ≡ done → outcome seals v a c ≡ (0, accepted seals v a c finished)
+  unfolding outcome
+  outcome-done c e d = ap₂ (λ (r : Answer) (u : Triple). (answerNumber r, u)) (answer-accepted seals v a c e ∙ d) (after-accepted seals v a c e)
+
+  -- a stage: 10 unless x holds
+  pub outcome-stage : (c : Call) (x : Bool) → firstOf (early v a c) ≡ none
+      → firstOf (late (sealing seals a) (a .number) (sector v a) c) ≡ firstOf (rule 10 (not x) ∷ []) → result (sealing seals a) (a .number) (sector v a) c ≡ done
+      → outcome seals v a c ≡ cond x (0, accepted seals v a c finished) (10, v)
+  outcome-stage c true e l d = outcome-done c (refusal-late seals v a c e ∙ l) d
+  outcome-stage c false e l d = outcome-refused c (refusal-late seals v a c e ∙ l)
+
+  -- ---- by the verdict
+
+  mend-by : (w : Verdict) → (answerNumber (reply (firstOf (judgeRules w)) (found (verdictDoubt w))), unless (firstOf (judgeRules w)) v (writeAll (a .size) (a .number) (on (sealing seals a .sealed (a .number) (mends w .plain))) (mends w .places) v)) ≡ mended (sealing seals a) (a .size) (a .number) v w
+  mend-by (whole P) = refl
+  mend-by (doubtful p P) = refl
+  mend-by lost = refl
+  mend-by clashing = refl
+
+  pub outcome-mend : firstOf (early v a mend) ≡ none → outcome seals v a mend ≡ mended (sealing seals a) (a .size) (a .number) v (judge (sealing seals a) (a .number) (sector v a))
+  unfolding outcome after
+  outcome-mend e =
+      let w : Verdict = judge (sealing seals a) (a .number) (sector v a) in
+      ap₂ (λ (r : Answer) (o : Option ℕ). (answerNumber r, unless o v (writeAll (a .size) (a .number) (on (sealing seals a .sealed (a .number) (mends w .plain))) (mends w .places) v)))
+      (answer-late seals v a mend e) (refusal-late seals v a mend e)
+      ∙ mend-by w
+
+  pub read-late : (out : List ℕ) → firstOf (early v a (read (length out))) ≡ none → readOutcome seals v a out ≡ verdictOutcome (judge (sealing seals a) (a .number) (sector v a)) out
+  unfolding readOutcome
+  read-late out e =
+      ap (λ (r : Answer). (answerNumber r, output r out)) (answer-late seals v a (read (length out)) e) ∙ read-by (judge (sealing seals a) (a .number) (sector v a)) out
