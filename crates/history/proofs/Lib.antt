@@ -9,3 +9,4 @@ pub mod Demand3
 pub mod Ranges
 pub mod Outcomes
 pub mod Meaning
+pub mod Cuts

@@ -5,3 +5,5 @@ pub mod Power
 pub mod History
 pub mod HistoryFrom
 pub mod Meaning
+pub mod Cuts
+pub mod Witness

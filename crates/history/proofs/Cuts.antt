@@ -1,0 +1,214 @@
+-- A cut leaves exactly what document 01's rule allows. Assumes nothing but the laws of the sealing.
+use mathlib.Core.Path.{_≡_, refl, sym, _∙_, ap, ap₂, subst}
+use mathlib.Core.Logic.{_↔_, _⊎_, inl, inr, ⊎-elim}
+use mathlib.Core.Bool.{Bool, true, false, cond}
+use mathlib.Core.List.{List, [], _∷_, _++_, List·Memᴰ, List·Memᴰ·head, List·Memᴰ·tail, List·Memᴰ·not-nil, List·Memᴰ·cases-cons}
+use mathlib.Core.Option.{none, some}
+use Prim.Native.Nat.{ℕ, zero, suc, _*_, _<_}
+use native.Mathlib.Nat.{zero-mul, suc-mul}
+use native.Mathlib.Decide.{ℕ-discrete}
+use native.Mathlib.Omega.{arith}
+use lib.ListN.{length, take}
+use lib.Seq.{take-add, take-all}
+use Rattle.block.specs.Bytes.{Plain, part}
+use Rattle.block.proofs.Lists.{clash, false-true}
+use Rattle.mode.specs.Sealing.{Triple}
+use Rattle.mode.specs.Scheme.{Place, local, tag, remote, on, wide, Scheme, Sector}
+use Rattle.verdict.proofs.JudgeExact.{same-place}
+use Rattle.history.specs.Volume.{store, sectorOf, Args, Call, writes, sector, sealing, refusal, mirror}
+use Rattle.history.specs.Power.{Cut, Fate, cut, CutOf, torn, Images, Lent, leavesCall}
+use Rattle.history.specs.HistoryFrom.{AnyBytes}
+use Rattle.history.specs.Cuts.{CutLeaves, CutExact}
+use Rattle.history.proofs.Demand3.{mirror-sound}
+use Rattle.history.proofs.Refusals.{accepted-passed, accepted-images}
+use Rattle.history.proofs.Images.{Left, left, sector-images, leaves-refused}
+use Rattle.history.proofs.Sector.{on-store, on-store-other, storeAll}
+
+-- ---- lists of parts
+
+-- a list is known by its parts
+pub parts-take : (w n : ℕ) (x y : List ℕ) → ((j : ℕ) → j < n → part w j x ≡ part w j y) → take (n * w) x ≡ take (n * w) y
+unfolding part
+parts-take w zero x y h = ap (λ (k : ℕ). take k x) (zero-mul w) ∙ sym (ap (λ (k : ℕ). take k y) (zero-mul w))
+parts-take w (suc n) x y h =
+    ap (λ (k : ℕ). take k x) (suc-mul n w)
+    ∙ take-add (n * w) w x
+    ∙ ap₂ _++_ (parts-take w n x y (λ j l. h j (omega arith))) (h n (omega arith))
+    ∙ sym (take-add (n * w) w y)
+    ∙ ap (λ (k : ℕ). take k y) (sym (suc-mul n w))
+
+pub parts-all : (w n : ℕ) (x y : List ℕ) → length x ≡ n * w → length y ≡ n * w → ((j : ℕ) → j < n → part w j x ≡ part w j y) → x ≡ y
+parts-all w n x y p q h = sym (take-all (n * w) x (omega arith)) ∙ parts-take w n x y h ∙ take-all (n * w) y (omega arith)
+
+-- ---- places
+
+-- whether a place is among some
+member : (p : Place) (ps : List Place) → List·Memᴰ p ps ⊎ (List·Memᴰ p ps → ⊥)
+member p [] = inr List·Memᴰ·not-nil
+member p (q ∷ ps) = go (same-place p q) (member p ps)
+  where
+    go : (p ≡ q) ⊎ (p ≡ q → ⊥) → List·Memᴰ p ps ⊎ (List·Memᴰ p ps → ⊥) → List·Memᴰ p (q ∷ ps) ⊎ (List·Memᴰ p (q ∷ ps) → ⊥)
+    go (inl e) r = inl (List·Memᴰ·head e)
+    go (inr d) (inl m) = inl (List·Memᴰ·tail m)
+    go (inr d) (inr n) = inr (λ m. ⊎-elim d n (List·Memᴰ·cases-cons m))
+
+abbrev decided : {A B : Type 0} → A ⊎ B → Bool
+decided (inl x) = true
+decided (inr y) = false
+
+module _ (b : Place → List ℕ) where
+  stored-out : (ps : List Place) (t : Triple) (p : Place) → (List·Memᴰ p ps → ⊥) → on (storeAll b ps t) p ≡ on t p
+  stored-out [] t p n = refl
+  stored-out (q ∷ ps) t p n =
+      stored-out ps (store q (b q) t) p (λ m. n (List·Memᴰ·tail m)) ∙ on-store-other q p (b q) t (λ e. n (List·Memᴰ·head e))
+
+  stored-in : (ps : List Place) (t : Triple) (p : Place) → List·Memᴰ p ps → on (storeAll b ps t) p ≡ b p
+  stored-in [] t p m = absurd (List·Memᴰ·not-nil m)
+  stored-in (q ∷ ps) t p m = go (member p ps) (List·Memᴰ·cases-cons m) (stored-in ps (store q (b q) t) p)
+    where
+      go : List·Memᴰ p ps ⊎ (List·Memᴰ p ps → ⊥) → (p ≡ q) ⊎ List·Memᴰ p ps
+          → (List·Memᴰ p ps → on (storeAll b ps (store q (b q) t)) p ≡ b p) → on (storeAll b ps (store q (b q) t)) p ≡ b p
+      go (inl k) r below = below k
+      go (inr n) (inl e) below =
+          stored-out ps (store q (b q) t) p n
+          ∙ ap (on (store q (b q) t)) e ∙ on-store q (b q) t ∙ ap b (sym e)
+      go (inr n) (inr k) below = absurd (n k)
+
+-- the places of a sector are parts of the images
+on-sector : (s j : ℕ) (v : Triple) (p : Place) → on (sectorOf s j v) p ≡ part (wide s p) j (on v p)
+on-sector s j v local = refl
+on-sector s j v tag = refl
+on-sector s j v remote = refl
+
+triple-all : (v w : Triple) → ((p : Place) → on v p ≡ on w p) → v ≡ w
+triple-all v w e = λ i. record { local = e local i; tag = e tag i; remote = e remote i }
+
+-- images of n sectors with the same sectors are the same
+images-same : (s n : ℕ) (v w : Triple) → ((p : Place) → length (on v p) ≡ n * wide s p) → ((p : Place) → length (on w p) ≡ n * wide s p)
+    → ((j : ℕ) → (p : Place) → on (sectorOf s j v) p ≡ on (sectorOf s j w) p) → v ≡ w
+images-same s n v w I J e =
+    triple-all v w
+    (λ p. parts-all (wide s p) n (on v p) (on w p) (I p) (J p) (λ j l. sym (on-sector s j v p) ∙ e j p ∙ on-sector s j w p))
+
+-- ---- an accepted call
+
+module _ (v : Triple) (b : AnyBytes v) (a : Args) (c : Call) (lent : Lent c) (e : refusal mirror v a c ≡ none) where
+  -- the places that it writes, what it writes there, and what it found there
+  abbrev places : List Place
+  places = writes (a .size) (sealing mirror a) (a .number) (sector v a) c .places
+
+  abbrev written : Triple
+  written = sealing mirror a .sealed (a .number) (writes (a .size) (sealing mirror a) (a .number) (sector v a) c .plain)
+
+  before : Images (a .size) (a .count) v
+  before = accepted-images mirror v a c b e
+
+  here : Sector (a .size) (sector v a)
+  here = sector-images (a .size) (a .count) (a .number) (accepted-passed mirror v a c e .number) v before
+
+  after-cut : (k : Cut) → CutOf (a .size) (cut k) → Left mirror v a c (cut k) (leavesCall mirror v a c (cut k))
+  after-cut k z = left mirror mirror-sound v b a c (cut k) lent z e
+
+  -- ---- the theorem's cuts keep the rule
+
+  module _ (k : Cut) (z : CutOf (a .size) (cut k)) where
+    begun : Place → Bool
+    begun p = decided (member p places)
+
+    mine-in : (p : Place) → List·Memᴰ p places → on (sector (leavesCall mirror v a c (cut k)) a) p ≡ torn k written (sector v a) p
+    mine-in p m = ap (λ (t : Triple). on t p) (after-cut k z .mine) ∙ stored-in (torn k written (sector v a)) places (sector v a) p m
+
+    mine-out : (p : Place) → (List·Memᴰ p places → ⊥) → on (sector (leavesCall mirror v a c (cut k)) a) p ≡ on (sector v a) p
+    mine-out p n = ap (λ (t : Triple). on t p) (after-cut k z .mine) ∙ stored-out (torn k written (sector v a)) places (sector v a) p n
+
+    begun-in : (p : Place) → begun p ≡ true → List·Memᴰ p places
+    unfolding begun
+    begun-in p h = go (member p places) h
+      where
+        go : (r : List·Memᴰ p places ⊎ (List·Memᴰ p places → ⊥)) → decided r ≡ true → List·Memᴰ p places
+        go (inl m) y = m
+        go (inr n) y = false-true y
+
+    begun-out : (p : Place) → begun p ≡ false → List·Memᴰ p places → ⊥
+    unfolding begun
+    begun-out p h = go (member p places) h
+      where
+        go : (r : List·Memᴰ p places ⊎ (List·Memᴰ p places → ⊥)) → decided r ≡ false → List·Memᴰ p places → ⊥
+        go (inl m) y = false-true (sym y)
+        go (inr n) y = n
+
+    tag-cases : (x : Bool) (new old : List ℕ) (g : List ℕ) → g ≡ cond x new old → (g ≡ old) ⊎ (g ≡ new)
+    tag-cases true new old g h = inr h
+    tag-cases false new old g h = inl h
+
+    keeps-rule : CutLeaves v a c (leavesCall mirror v a c (cut k))
+    keeps-rule = record {
+      begun = begun;
+      writes-begun = begun-in;
+      any-local = λ h. subst (Plain (a .size)) (sym (mine-in local (begun-in local h))) (z .0);
+      any-remote = λ h. subst (Plain (a .size)) (sym (mine-in remote (begun-in remote h))) (z .1);
+      old-or-new = λ h. tag-cases (k .newTag) (written .tag) (sector v a .tag) _ (mine-in tag (begun-in tag h));
+      not-begun = λ p h. mine-out p (begun-out p h);
+      others = after-cut k z .others;
+      lengths = λ p. after-cut k z .images .images p .long ∙ sym (before .images p .long);
+    }
+
+  -- ---- what keeps the rule is one of the theorem's cuts
+
+  module _ (w : Triple) (r : CutLeaves v a c w) where
+    any-side : (p : Place) → wide (a .size) p ≡ a .size → (r .begun p ≡ true → Plain (a .size) (on (sector w a) p)) → Plain (a .size) (on (sector w a) p)
+    any-side p d h = go (r .begun p) refl
+      where
+        go : (x : Bool) → r .begun p ≡ x → Plain (a .size) (on (sector w a) p)
+        go true y = h y
+        go false y = subst (Plain (a .size)) (sym (r .not-begun p y)) (subst (λ (m : ℕ). Plain m (on (sector v a) p)) d (here .places p))
+
+    tag-is : (x : Bool) × (sector w a .tag ≡ cond x (written .tag) (sector v a .tag))
+    tag-is = go (r .begun tag) refl
+      where
+        go : (x : Bool) → r .begun tag ≡ x → (x : Bool) × (sector w a .tag ≡ cond x (written .tag) (sector v a .tag))
+        go true y = ⊎-elim (λ h. (false, h)) (λ h. (true, h)) (r .old-or-new y)
+        go false y = (false, r .not-begun tag y)
+
+    the-cut : Cut
+    the-cut = record { inLocal = sector w a .local; inRemote = sector w a .remote; newTag = tag-is .0 }
+
+    is-cut : CutOf (a .size) (cut the-cut)
+    unfolding the-cut
+    is-cut = (any-side local refl (r .any-local), any-side remote refl (r .any-remote))
+
+    torn-is : (p : Place) → torn the-cut written (sector v a) p ≡ on (sector w a) p
+    unfolding the-cut
+    torn-is local = refl
+    torn-is tag = sym (tag-is .1)
+    torn-is remote = refl
+
+    mine : (p : Place) → on (sector (leavesCall mirror v a c (cut the-cut)) a) p ≡ on (sector w a) p
+    mine p = go (member p places)
+      where
+        go : List·Memᴰ p places ⊎ (List·Memᴰ p places → ⊥) → on (sector (leavesCall mirror v a c (cut the-cut)) a) p ≡ on (sector w a) p
+        go (inl m) = mine-in the-cut is-cut p m ∙ torn-is p
+        go (inr n) = mine-out the-cut is-cut p n ∙ sym (as-before (r .begun p) refl)
+          where
+            as-before : (x : Bool) → r .begun p ≡ x → on (sector w a) p ≡ on (sector v a) p
+            as-before true y = absurd (n (r .writes-begun p y))
+            as-before false y = r .not-begun p y
+
+    all-sectors : (j : ℕ) (p : Place) → on (sectorOf (a .size) j (leavesCall mirror v a c (cut the-cut))) p ≡ on (sectorOf (a .size) j w) p
+    all-sectors j p = go (ℕ-discrete j (a .number))
+      where
+        go : Dec (j ≡ a .number) → on (sectorOf (a .size) j (leavesCall mirror v a c (cut the-cut))) p ≡ on (sectorOf (a .size) j w) p
+        go (yes h) =
+            subst (λ (i : ℕ). on (sectorOf (a .size) i (leavesCall mirror v a c (cut the-cut))) p ≡ on (sectorOf (a .size) i w) p) (sym h) (mine p)
+        go (no n) = ap (λ (t : Triple). on t p) (after-cut the-cut is-cut .others j n ∙ sym (r .others j n))
+
+    is-left : leavesCall mirror v a c (cut the-cut) ≡ w
+    is-left =
+        images-same (a .size) (a .count) (leavesCall mirror v a c (cut the-cut)) w
+        (λ p. after-cut the-cut is-cut .images .images p .long) (λ p. r .lengths p ∙ before .images p .long) all-sectors
+
+  exactly : (w : Triple) → ((k : Cut) × CutOf (a .size) (cut k) × (leavesCall mirror v a c (cut k) ≡ w)) ↔ CutLeaves v a c w
+  exactly w = (λ (k, z, h). subst (CutLeaves v a c) h (keeps-rule k z), λ r. (the-cut w r, is-cut w r, is-left w r))
+
+pub cut-exact : CutExact
+cut-exact = record { refused = leaves-refused mirror; accepted = λ v b a c lent e w. exactly v b a c lent e w }
