@@ -3,7 +3,7 @@ use mathlib.Core.Path.{_≡_, refl, sym, _∙_, ap, ap₂, subst}
 use mathlib.Core.Logic.{_↔_, _⊎_, inl, inr, ⊎-elim}
 use mathlib.Core.Bool.{Bool, true, false, cond}
 use mathlib.Core.List.{List, [], _∷_, _++_, List·Memᴰ, List·Memᴰ·head, List·Memᴰ·tail, List·Memᴰ·not-nil, List·Memᴰ·cases-cons}
-use mathlib.Core.Option.{none, some}
+use mathlib.Core.Option.{none}
 use Prim.Native.Nat.{ℕ, zero, suc, _*_, _<_}
 use native.Mathlib.Nat.{zero-mul, suc-mul}
 use native.Mathlib.Decide.{ℕ-discrete}
@@ -11,12 +11,12 @@ use native.Mathlib.Omega.{arith}
 use lib.ListN.{length, take}
 use lib.Seq.{take-add, take-all}
 use Rattle.block.specs.Bytes.{Plain, part}
-use Rattle.block.proofs.Lists.{clash, false-true}
+use Rattle.block.proofs.Lists.{false-true}
 use Rattle.mode.specs.Sealing.{Triple}
-use Rattle.mode.specs.Scheme.{Place, local, tag, remote, on, wide, Scheme, Sector}
+use Rattle.mode.specs.Scheme.{Place, local, tag, remote, on, wide, Sector}
 use Rattle.verdict.proofs.JudgeExact.{same-place}
 use Rattle.history.specs.Volume.{store, sectorOf, Args, Call, writes, sector, sealing, refusal, mirror}
-use Rattle.history.specs.Power.{Cut, Fate, cut, CutOf, torn, Images, Lent, leavesCall}
+use Rattle.history.specs.Power.{Cut, cut, CutOf, torn, Images, Lent, leavesCall}
 use Rattle.history.specs.HistoryFrom.{AnyBytes}
 use Rattle.history.specs.Cuts.{CutLeaves, CutExact}
 use Rattle.history.proofs.Demand3.{mirror-sound}

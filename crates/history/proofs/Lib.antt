@@ -10,3 +10,4 @@ pub mod Ranges
 pub mod Outcomes
 pub mod Meaning
 pub mod Cuts
+pub mod Witness
