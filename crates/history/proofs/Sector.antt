@@ -20,7 +20,7 @@ use Rattle.history.specs.HistoryFrom.{Agree}
 use Rattle.block.proofs.Lists.{clash, false-true, and-left, and-right, and-both, plain-zeros}
 use Rattle.history.proofs.Options.{none-some}
 use Rattle.verdict.proofs.JudgeExact.{same-place, FitsBut, fits-Fits, Fits-fits, but-two, but-miss, one-for-all, judge-means, means-once}
-use Rattle.verdict.proofs.Rules.{only-rule}
+use Rattle.verdict.proofs.Rules.{cond-none, only-rule}
 use Rattle.history.proofs.Refusals.{Sized}
 
 -- bytes for each place, stored in some of the places
@@ -135,7 +135,7 @@ module _ (s : ℕ) (S : Scheme) (L : Lawful s S) (i : ℕ) (t : Triple) (σ : Se
   -- a first stage is accepted only where the kept plaintext fits all three
   first-whole : (Q P : List ℕ) (d : Option Place) → firstOf (late S i t (first Q)) ≡ none → Agree s S i t (kept P d) → (p : Place) → Fits S i t p P
   first-whole Q P d e g =
-      let w = is-whole (judge S i t) (not-false (isWhole (judge S i t)) (only-rule (not (isWhole (judge S i t))) 10 e)) in
+      let w = is-whole (judge S i t) (not-false (isWhole (judge S i t)) (cond-none (not (isWhole (judge S i t))) 10 _ e .0)) in
       agree-whole P (w .0) d g (subst (λ (u : Verdict). Means s S i t u) (w .1) (judge-means s S L i t σ))
 
   -- what is held agrees after the call
@@ -151,19 +151,20 @@ module _ (s : ℕ) (S : Scheme) (L : Lawful s S) (i : ℕ) (t : Triple) (σ : Se
       fit remote n = refl
   keeps-blank (cut k) x = tt
 
-  local-only : (b : List ℕ) (P : List ℕ) → Plain s P → ((p : Place) → Fits S i t p P) → Agree s S i (store local b t) (kept P (some local))
-  local-only b P h f = (h, fit)
+  -- only the local place has changed, to any bytes
+  local-only : (u : Triple) → u .tag ≡ t .tag → u .remote ≡ t .remote → (P : List ℕ) → Plain s P → ((p : Place) → Fits S i t p P) → Agree s S i u (kept P (some local))
+  local-only u eg er P h f = (h, fit)
     where
-      fit : (p : Place) → (some local ≡ some p → ⊥) → Fits S i (store local b t) p P
+      fit : (p : Place) → (some local ≡ some p → ⊥) → Fits S i u p P
       fit local n = absurd (n refl)
-      fit tag n = f tag
-      fit remote n = f remote
+      fit tag n = eg ∙ f tag
+      fit remote n = er ∙ f remote
 
   keeps-first : (Q : List ℕ) (f : Fate) (x : Held) → firstOf (late S i t (first Q)) ≡ none → Agree s S i t x → Keeps (first Q) f x
   keeps-first Q finished gone e g = tt
   keeps-first Q (cut k) gone e g = tt
-  keeps-first Q finished (kept P d) e g = local-only (S .sealed i Q .local) P (g .0) (first-whole Q P d e g)
-  keeps-first Q (cut k) (kept P d) e g = local-only (k .inLocal) P (g .0) (first-whole Q P d e g)
+  keeps-first Q finished (kept P d) e g = local-only (sectorAfter s S i t (first Q) finished) refl refl P (g .0) (first-whole Q P d e g)
+  keeps-first Q (cut k) (kept P d) e g = local-only (sectorAfter s S i t (first Q) (cut k)) refl refl P (g .0) (first-whole Q P d e g)
 
   second-local : (P : List ℕ) → firstOf (late S i t (second P)) ≡ none → Fits S i t local P
   second-local P e = fits-Fits S i t local P (not-false (fits S i t local P) (only-rule (not (fits S i t local P)) 10 e))
