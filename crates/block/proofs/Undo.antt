@@ -6,11 +6,11 @@ use native.Mathlib.Omega.{arith}
 use lib.Dec.{lit<, lit≤}
 use lib.Pow.{pow-add, shr-lt, shl-shr, mod-pow-add}
 use lib.Arith.{digits-lt}
-use lib.Bits.{bitXor, bitOr, xor-block, xor-comm, xor-zero-r, xor-self, xor-lt, xor-mod, or-shifted, xor-shifted}
+use lib.Bits.{bitXor, bitOr, bitAnd, xor-block, xor-comm, xor-zero-r, xor-self, xor-lt, xor-mod, or-shifted, xor-shifted}
 use Rattle.block.proofs.Bits.{bit-cases, bit-lt, xor-assoc, xor-swap, xor-shl, xor-cancel-r}
 use Rattle.block.specs.Field.{times, double, horner, mul, x⁻¹, 1⊕x⁻¹}
-use Rattle.block.proofs.Field.{mul-add, mul-two-l, mul-three-l, double-add, double-small, x⁻¹-inverse, 1⊕x⁻¹-inverse}
-use Rattle.block.proofs.Words.{shifted, twice-mod, out}
+use Rattle.block.proofs.Field.{times-lt, mul-add, mul-two-l, mul-three-l, double-add, double-small, x⁻¹-inverse, 1⊕x⁻¹-inverse}
+use Rattle.block.proofs.Words.{ones, under-mask, shifted, twice-mod, out}
 
 -- ---- a word and its shift by k
 
@@ -72,43 +72,37 @@ prefix-xor-is x =
 
 -- ---- a block
 
-pub spread-lt : (q : ℕ) → q < 2 → q * 0xffff_ffff_ffff_ffff < 2 ^ 64
-spread-lt = bit-cases (λ (q : ℕ). q * 0xffff_ffff_ffff_ffff < 2 ^ 64) (lit< tt) (lit< tt)
-
 -- a carry spread over a word
-carry : (q : ℕ) → q < 2 → bitXor (q * 0xffff_ffff_ffff_ffff) (q * 0xffff_ffff_ffff_ffff * 2 % 2 ^ 64) ≡ q
-carry = bit-cases (λ (q : ℕ). bitXor (q * 0xffff_ffff_ffff_ffff) (q * 0xffff_ffff_ffff_ffff * 2 % 2 ^ 64) ≡ q) refl refl
+carry : (q : ℕ) → q < 2 → bitXor (times q ones) (times q ones * 2 % 2 ^ 64) ≡ q
+unfolding times
+carry = bit-cases (λ (q : ℕ). bitXor (times q ones) (times q ones * 2 % 2 ^ 64) ≡ q) refl refl
 
-tail : (q : ℕ) → q < 2 → mul 3 (q * 0x7d) ≡ times (q % 2) 0x87
+tail : (q : ℕ) → q < 2 → mul 3 (times q 0x7d) ≡ times (q % 2) 0x87
 unfolding mul horner double times
-tail = bit-cases (λ (q : ℕ). mul 3 (q * 0x7d) ≡ times (q % 2) 0x87) refl refl
+tail = bit-cases (λ (q : ℕ). mul 3 (times q 0x7d) ≡ times (q % 2) 0x87) refl refl
 
-module _ (hi lo g l : ℕ) (hl : l < 2 ^ 64) (hg : g < 2 ^ 64) (eg : over 1 g ≡ hi) (el : over 1 l ≡ lo) where
+-- g and l undo the shifts of the two words; m and n are the masks of the bits that l and then the high word push out
+module _ (hi lo g l m n : ℕ) (hl : l < 2 ^ 64) (hg : g < 2 ^ 64) (hm : m < 2 ^ 64) (eg : over 1 g ≡ hi) (el : over 1 l ≡ lo)
+    (em : m ≡ times (l / 2 ^ 63) ones) (en : n ≡ times (bitXor g m / 2 ^ 63) ones) where
   abbrev q : ℕ
   q = l / 2 ^ 63
 
   q-lt : q < 2
   q-lt = shr-lt 1 63 hl
 
-  abbrev ones : ℕ
-  ones = q * 0xffff_ffff_ffff_ffff
-
-  ones-lt : ones < 2 ^ 64
-  ones-lt = spread-lt q q-lt
-
   abbrev h : ℕ
-  h = bitXor g ones
+  h = bitXor g m
 
-  pub hh : bitXor g (l / 2 ^ 63 * 0xffff_ffff_ffff_ffff) < 2 ^ 64
-  hh = xor-lt 64 g ones hg ones-lt
+  hh : h < 2 ^ 64
+  hh = xor-lt 64 g m hg hm
 
   abbrev s : ℕ
   s = h * 2 ^ 64 + l
 
   upper : bitXor h (h * 2 % 2 ^ 64) ≡ bitXor hi q
   upper =
-      ap (bitXor h) (shl-add g ones 1) ∙ xor-swap g ones (g * 2 % 2 ^ 64) (ones * 2 % 2 ^ 64)
-      ∙ ap₂ bitXor eg (carry q q-lt)
+      ap (bitXor h) (shl-add g m 1) ∙ xor-swap g m (g * 2 % 2 ^ 64) (m * 2 % 2 ^ 64)
+      ∙ ap₂ bitXor eg (ap (over 1) em ∙ carry q q-lt)
 
   -- the sum with the shifted block
   sum : bitXor (s * 2 % 2 ^ 128) s ≡ hi * 2 ^ 64 + lo
@@ -128,15 +122,18 @@ module _ (hi lo g l : ℕ) (hl : l < 2 ^ 64) (hg : g < 2 ^ 64) (eg : over 1 g �
   o-lt : o < 2
   o-lt = shr-lt 1 63 hh
 
-  tail-lt : o * 0x7d < 2 ^ 64
-  tail-lt = let b = o-lt in omega arith
+  abbrev rest : ℕ
+  rest = times o 0x7d
 
-  three : mul 3 (bitXor s (o * 0x7d)) ≡ hi * 2 ^ 64 + lo
+  rest-lt : rest < 2 ^ 64
+  rest-lt = times-lt o (lit< tt)
+
+  three : mul 3 (bitXor s rest) ≡ hi * 2 ^ 64 + lo
   unfolding double
   three =
       let t = times (o % 2) 0x87 in
       let d = s * 2 % 2 ^ 128 in
-      mul-add 3 s (o * 0x7d)
+      mul-add 3 s rest
       ∙ ap₂ bitXor
       (mul-three-l s ∙ ap (λ (y : ℕ). bitXor (bitXor d (times (y % 2) 0x87)) s) (out h l hh hl))
       (tail o o-lt)
@@ -144,13 +141,13 @@ module _ (hi lo g l : ℕ) (hl : l < 2 ^ 64) (hg : g < 2 ^ 64) (eg : over 1 g �
       ∙ xor-cancel-r (bitXor d s) t
       ∙ sum
 
-  whole-lt : bitXor s (o * 0x7d) < 2 ^ 128
-  whole-lt = xor-lt 128 s (o * 0x7d) (digits-lt {m = 2 ^ 64} {c = 2 ^ 64} hh hl) (lt-of-lt-of-le tail-lt (lit≤ tt))
+  whole-lt : bitXor s rest < 2 ^ 128
+  whole-lt = xor-lt 128 s rest (digits-lt {m = 2 ^ 64} {c = 2 ^ 64} hh hl) (lt-of-lt-of-le rest-lt (lit≤ tt))
 
-  pub undone-triple : bitXor g (l / 2 ^ 63 * 0xffff_ffff_ffff_ffff) * 2 ^ 64 + bitXor l (o * 0x7d) ≡ mul 1⊕x⁻¹ (hi * 2 ^ 64 + lo)
+  pub undone-triple : bitXor g m * 2 ^ 64 + bitXor l (bitAnd n 0x7d) ≡ mul 1⊕x⁻¹ (hi * 2 ^ 64 + lo)
   undone-triple =
-      ap (λ (x : ℕ). x * 2 ^ 64 + bitXor l (o * 0x7d)) (sym (xor-zero-r h))
-      ∙ sym (xor-block 64 h 0 l (o * 0x7d) hl tail-lt) ∙ ap (bitXor s) (zero-add (o * 0x7d))
+      ap₂ (λ (x y : ℕ). x * 2 ^ 64 + bitXor l y) (sym (xor-zero-r h)) (under-mask o en (lit< tt))
+      ∙ sym (xor-block 64 h 0 l rest hl rest-lt) ∙ ap (bitXor s) (zero-add rest)
       ∙ sym (1⊕x⁻¹-inverse whole-lt) ∙ ap (mul 1⊕x⁻¹) three
 
 -- ---- x
@@ -158,11 +155,12 @@ module _ (hi lo g l : ℕ) (hl : l < 2 ^ 64) (hg : g < 2 ^ 64) (eg : over 1 g �
 regroup : (a b c d : ℕ) → (a * 2 ^ 64 + (b * 2 ^ 63 + c)) * 2 + d ≡ (a * 2 + b) * 2 ^ 64 + (c * 2 + d)
 regroup a b c d = omega arith
 
-halved : (q : ℕ) → q < 2 → double (q * 0x8000_0000_0000_0000 * 2 ^ 64 + q * 0x43) ≡ q
+halved : (q : ℕ) → q < 2 → double (times q 0x8000_0000_0000_0000 * 2 ^ 64 + times q 0x43) ≡ q
 unfolding double times
-halved = bit-cases (λ (q : ℕ). double (q * 0x8000_0000_0000_0000 * 2 ^ 64 + q * 0x43) ≡ q) refl refl
+halved = bit-cases (λ (q : ℕ). double (times q 0x8000_0000_0000_0000 * 2 ^ 64 + times q 0x43) ≡ q) refl refl
 
-module _ (hi lo : ℕ) (hh : hi < 2 ^ 64) (hl : lo < 2 ^ 64) where
+-- m is the mask of the bit pushed out
+module _ (hi lo m : ℕ) (hh : hi < 2 ^ 64) (hl : lo < 2 ^ 64) (em : m ≡ times (lo % 2) ones) where
   abbrev p : ℕ
   p = lo % 2
 
@@ -184,26 +182,36 @@ module _ (hi lo : ℕ) (hh : hi < 2 ^ 64) (hl : lo < 2 ^ 64) where
   both : half * 2 + p ≡ hi * 2 ^ 64 + lo
   both = regroup (hi / 2) (hi % 2) (lo / 2) (lo % 2) ∙ ap₂ (λ (x y : ℕ). x * 2 ^ 64 + y) (div-add-mod' hi 2) (div-add-mod' lo 2)
 
-  abbrev corr : ℕ
-  corr = p * 0x8000_0000_0000_0000 * 2 ^ 64 + p * 0x43
-
   p-lt : p < 2
   p-lt = bit-lt lo
 
-  corr-low : p * 0x43 < 2 ^ 64
-  corr-low = let b = p-lt in omega arith
+  abbrev high : ℕ
+  high = times p 0x8000_0000_0000_0000
 
-  corr-high : p * 0x8000_0000_0000_0000 < 2 ^ 64
-  corr-high = let b = p-lt in omega arith
+  abbrev low : ℕ
+  low = times p 0x43
 
-  doubled : mul 2 (bitXor half corr) ≡ hi * 2 ^ 64 + lo
+  low-lt : low < 2 ^ 64
+  low-lt = times-lt p (lit< tt)
+
+  abbrev undone : ℕ
+  undone = bitXor half (high * 2 ^ 64 + low)
+
+  undone-lt : undone < 2 ^ 128
+  undone-lt =
+      xor-lt 128 half (high * 2 ^ 64 + low) (lt-of-lt-of-le half-lt (lit≤ tt))
+      (digits-lt {m = 2 ^ 64} {c = 2 ^ 64} (times-lt p (lit< tt)) low-lt)
+
+  doubled : mul 2 undone ≡ hi * 2 ^ 64 + lo
   doubled =
-      mul-two-l (bitXor half corr) ∙ double-add half corr ∙ ap₂ bitXor (double-small half-lt) (halved p p-lt)
+      mul-two-l undone ∙ double-add half (high * 2 ^ 64 + low) ∙ ap₂ bitXor (double-small half-lt) (halved p p-lt)
       ∙ xor-shifted half 1 p p-lt ∙ both
 
-  pub undone-double : bitXor (hi / 2) (p * 0x8000_0000_0000_0000) * 2 ^ 64 + bitXor (bitOr (hi * 2 ^ 63 % 2 ^ 64) (lo / 2)) (p * 0x43) ≡ mul x⁻¹ (hi * 2 ^ 64 + lo)
+  pub undone-double : bitXor (hi / 2) (bitAnd m 0x8000_0000_0000_0000) * 2 ^ 64 + bitXor (bitOr (hi * 2 ^ 63 % 2 ^ 64) (lo / 2)) (bitAnd m 0x43)
+      ≡ mul x⁻¹ (hi * 2 ^ 64 + lo)
   undone-double =
-      ap (λ (x : ℕ). bitXor (hi / 2) (p * 0x8000_0000_0000_0000) * 2 ^ 64 + bitXor x (p * 0x43)) low-word
-      ∙ sym (xor-block 64 (hi / 2) (p * 0x8000_0000_0000_0000) (hi % 2 * 2 ^ 63 + lo / 2) (p * 0x43) low-small corr-low)
-      ∙ sym (x⁻¹-inverse (xor-lt 128 half corr (lt-of-lt-of-le half-lt (lit≤ tt)) (digits-lt {m = 2 ^ 64} {c = 2 ^ 64} corr-high corr-low)))
-      ∙ ap (mul x⁻¹) doubled
+      ap₂ (λ (x y : ℕ). bitXor (hi / 2) x * 2 ^ 64 + bitXor (bitOr (hi * 2 ^ 63 % 2 ^ 64) (lo / 2)) y)
+      (under-mask p em (lit< tt)) (under-mask p em (lit< tt))
+      ∙ ap (λ (x : ℕ). bitXor (hi / 2) high * 2 ^ 64 + bitXor x low) low-word
+      ∙ sym (xor-block 64 (hi / 2) high (hi % 2 * 2 ^ 63 + lo / 2) low low-small low-lt)
+      ∙ sym (x⁻¹-inverse undone-lt) ∙ ap (mul x⁻¹) doubled

@@ -2,16 +2,35 @@
 use mathlib.Core.Path.{_≡_, refl, sym, ap, ap₂, _∙_}
 use mathlib.Core.Bool.{Bool, true, false}
 use Prim.Native.Nat.{ℕ, zero, suc, _+_, _-_, _*_, _/_, _%_, _^_, _≤_, _<_}
-use native.Mathlib.Nat.{div-one, mod-lt, zero-add, add-mul, mul-right-comm, mul-add-div-right, mul-add-mod-self-right}
+use native.Mathlib.Nat.{div-one, mod-lt, mod-eq-of-lt, lt-of-le-of-lt, zero-add, add-mul, mul-right-comm, mul-add-div-right, mul-add-mod-self-right}
 use native.Mathlib.Numerals.{add-one}
 use native.Mathlib.Omega.{arith}
 use lib.Dec.{eqb, lit<}
 use lib.Pow.{high, mod-pow-add, shr-shr, shr-lt}
-use lib.Bits.{bitXor, bitOr, xor-block, xor-zero-r, or-shifted}
+use lib.Bits.{bitXor, bitOr, bitAnd, xor-block, xor-zero-r, or-shifted, and-comm, and-mask, and-le-r}
 use borrow.Author.Tests.{eqb-true, eqb-false, eq-eqb, ne-eqb}
-use Rattle.block.proofs.Bits.{bit-cases}
 use Rattle.block.specs.Field.{times, double, horner, mul}
 use Rattle.block.proofs.Field.{horner-append, horner-low}
+
+-- ---- a bit spread over a word
+
+abbrev pub ones : ℕ
+ones = 0xffff_ffff_ffff_ffff
+
+-- what a wrapping subtraction from zero gives
+pub spread-bit : (q r : ℕ) → q < 2 → r < 2 ^ 64 → (r + q) % 2 ^ 64 ≡ 0 → r ≡ times q ones
+unfolding times
+spread-bit zero r hq hr e = omega arith
+spread-bit (suc zero) r hq hr e = omega arith
+spread-bit (suc (suc q)) r hq hr e = absurd (omega arith)
+
+-- a word under it
+pub under-mask : {m c : ℕ} (q : ℕ) → m ≡ times q ones → c < 2 ^ 64 → bitAnd m c ≡ times q c
+unfolding times
+under-mask {m} {c} zero e h = ap (λ (x : ℕ). bitAnd x c) e
+under-mask {m} {c} (suc q) e h = ap (λ (x : ℕ). bitAnd x c) e ∙ and-comm ones c ∙ and-mask c 64 ∙ mod-eq-of-lt h
+
+-- ---- doubling
 
 -- the double's shifted part, word by word
 module _ (h l : ℕ) (hh : h < 2 ^ 64) (hl : l < 2 ^ 64) where
@@ -44,19 +63,18 @@ module _ (h l : ℕ) (hh : h < 2 ^ 64) (hl : l < 2 ^ 64) where
   pub top-bit : h / 2 ^ 63 < 2
   top-bit = shr-lt 1 63 hh
 
-  reduction : times (h / 2 ^ 63 % 2) 0x87 ≡ h / 2 ^ 63 * 0x87
-  unfolding times
-  reduction = bit-cases (λ (x : ℕ). times (x % 2) 0x87 ≡ x * 0x87) refl refl (h / 2 ^ 63) top-bit
+  reduction : {m : ℕ} → m ≡ times (h / 2 ^ 63) ones → bitAnd m 0x87 ≡ times ((h * 2 ^ 64 + l) / 2 ^ 127 % 2) 0x87
+  reduction e =
+      under-mask (h / 2 ^ 63) e (lit< tt)
+      ∙ ap (λ (x : ℕ). times x 0x87) (sym (mod-eq-of-lt top-bit)) ∙ ap (λ (x : ℕ). times (x % 2) 0x87) (sym out)
 
-  small : h / 2 ^ 63 * 0x87 < 2 ^ 64
-  small = omega arith
-
-  pub double-words : bitOr (h * 2 % 2 ^ 64) (l / 2 ^ 63) * 2 ^ 64 + bitXor (l * 2 % 2 ^ 64) (h / 2 ^ 63 * 0x87) ≡ double (h * 2 ^ 64 + l)
+  pub double-words : (m : ℕ) → m ≡ times (h / 2 ^ 63) ones
+      → bitOr (h * 2 % 2 ^ 64) (l / 2 ^ 63) * 2 ^ 64 + bitXor (l * 2 % 2 ^ 64) (bitAnd m 0x87) ≡ double (h * 2 ^ 64 + l)
   unfolding double
-  double-words =
+  double-words m e =
       ap₂ (λ (x y : ℕ). x * 2 ^ 64 + y) (upper ∙ sym (xor-zero-r (h % 2 ^ 63 * 2 + l / 2 ^ 63))) refl
-      ∙ sym (xor-block 64 (h % 2 ^ 63 * 2 + l / 2 ^ 63) 0 (l * 2 % 2 ^ 64) (h / 2 ^ 63 * 0x87) (mod-lt (l * 2) (lit< tt)) small)
-      ∙ ap₂ bitXor (sym shifted) (zero-add (h / 2 ^ 63 * 0x87) ∙ sym reduction ∙ ap (λ (x : ℕ). times (x % 2) 0x87) (sym out))
+      ∙ sym (xor-block 64 (h % 2 ^ 63 * 2 + l / 2 ^ 63) 0 (l * 2 % 2 ^ 64) (bitAnd m 0x87) (mod-lt (l * 2) (lit< tt)) (lt-of-le-of-lt (and-le-r m 0x87) (lit< tt)))
+      ∙ ap₂ bitXor (sym shifted) (zero-add (bitAnd m 0x87) ∙ reduction e)
 
 pub times-set : (x b : ℕ) → (x ≡ 0 → ⊥) → times x b ≡ b
 unfolding times

@@ -26,13 +26,21 @@ pub fn xor(a: Block, b: Block) -> Block
     }
 }
 
+// A bit spread over a word: all ones where it is 1, else zero.
+fn mask(bit: u64) -> u64
+    requires { ⌜ bit < 2 ⌝ }
+    ensures { λ r. ⌜ r ≡ times bit 0xffff_ffff_ffff_ffff ⌝ }
+{
+    std::num::wrapping_sub_u64(0, bit)
+}
+
 // The product by x: a shift left by one bit, and the reduction byte where the bit pushed out was 1.
 pub fn double(a: Block) -> Block
     ensures { λ r. ⌜ value r ≡ F.double (value a) ⌝ }
 {
     let out = a.hi >> 63;
     let carry = a.lo >> 63;
-    let reduction = out * 0x87;
+    let reduction = mask(out) & 0x87;
     let hi = (a.hi << 1) | carry;
     let lo = (a.lo << 1) ^ reduction;
     Block { hi, lo }
@@ -49,10 +57,10 @@ pub fn triple(a: Block) -> Block
 pub fn undo_double(c: Block) -> Block
     ensures { λ r. ⌜ value r ≡ F.mul x⁻¹ (value c) ⌝ }
 {
-    let out = c.lo % 2;
+    let out = mask(c.lo % 2);
     Block {
-        hi: (c.hi >> 1) ^ out * 0x8000_0000_0000_0000,
-        lo: ((c.hi << 63) | (c.lo >> 1)) ^ out * 0x43,
+        hi: (c.hi >> 1) ^ (out & 0x8000_0000_0000_0000),
+        lo: ((c.hi << 63) | (c.lo >> 1)) ^ (out & 0x43),
     }
 }
 
@@ -73,10 +81,10 @@ pub fn undo_triple(c: Block) -> Block
     ensures { λ r. ⌜ value r ≡ F.mul 1⊕x⁻¹ (value c) ⌝ }
 {
     let l = prefix_xor(c.lo);
-    let h = prefix_xor(c.hi) ^ (l >> 63) * 0xffff_ffff_ffff_ffff;
+    let h = prefix_xor(c.hi) ^ mask(l >> 63);
     Block {
         hi: h,
-        lo: l ^ (h >> 63) * 0x7d,
+        lo: l ^ (mask(h >> 63) & 0x7d),
     }
 }
 

@@ -5,14 +5,15 @@ use Rattle.block.proofs.Words.{double-words}
 use Rattle.block.proofs.double.Statement.{statement}
 use Rattle.block.proofs.double.Tie as tie
 
-mul-reduction : tie.Need-mul-reduction
-mul-reduction c = search needs
+mask-requires : tie.Need-mask-requires
+mask-requires c κs = search needs
 
 returns : tie.Need-returns
 unfolding value
 returns c =
-    let a = c .before .before .before .before .args .a in
-    double-words (a .hi) (a .lo) (omega arith) (omega arith)
+    let m = c .before .before .mask in
+    let a = c .before .before .before .before .before .args .a in
+    double-words (a .hi) (a .lo) (omega arith) (omega arith) (m .result) (m .ensures)
 
 pub double-spec : {M : Type 1} → statement M
-double-spec = tie.close (tie.spec mul-reduction returns)
+double-spec = tie.close (tie.spec mask-requires returns)

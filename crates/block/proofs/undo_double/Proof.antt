@@ -5,15 +5,15 @@ use borrow.Author.Needs.{needs}
 use Rattle.block.proofs.undo_double.Statement.{statement}
 use Rattle.block.proofs.undo_double.Tie as tie
 
-mul-t4 : tie.Need-mul-t4
-mul-t4 c = search needs
-
-mul-t9 : tie.Need-mul-t9
-mul-t9 c = search needs
+mask-requires : tie.Need-mask-requires
+mask-requires c κs = search needs
 
 returns : tie.Need-returns
 unfolding value
-returns c = undone-double (c .before .before .before .before .args .c .hi) (c .before .before .before .before .args .c .lo) (omega arith) (omega arith)
+returns c =
+    let m = c .before .before .before .mask in
+    let a = c .before .before .before .before .before .args .c in
+    undone-double (a .hi) (a .lo) (m .result) (omega arith) (omega arith) (m .ensures)
 
 pub undo-double-spec : {M : Type 1} → statement M
-undo-double-spec = tie.close (tie.spec mul-t4 mul-t9 returns)
+undo-double-spec = tie.close (tie.spec mask-requires returns)
