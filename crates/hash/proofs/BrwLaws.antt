@@ -1,9 +1,9 @@
--- Laws of BRW: its cases hold with BRW itself for the hash of fewer blocks. Assumes nothing.
-use mathlib.Core.Path.{_≡_, refl, ap₂}
+-- Laws of BRW: its cases hold with BRW itself for the hash of fewer blocks, and its powers are products. Assumes nothing.
+use mathlib.Core.Path.{_≡_, refl, sym, ap, ap₂, _∙_}
 use mathlib.Core.Bool.{Bool, true, false, cond}
 use mathlib.Core.List.{List, [], _∷_}
-use Prim.Native.Nat.{ℕ, zero, suc, _-_, _^_, _≤_, _<_}
-use native.Mathlib.Nat.{le-refl, le-trans, lt-of-not-le, not-le-of-lt, le-antisymm, le-of-suc-le-suc, not-suc-le-zero, pow-suc}
+use Prim.Native.Nat.{ℕ, zero, suc, _+_, _-_, _^_, _≤_, _<_}
+use native.Mathlib.Nat.{zero-add, suc-add, le-refl, le-trans, lt-of-not-le, not-le-of-lt, le-antisymm, le-of-suc-le-suc, not-suc-le-zero, pow-suc}
 use native.Mathlib.Decide.{decLe}
 use native.Mathlib.Omega.{arith}
 use lib.Dec.{leb, lit<}
@@ -12,9 +12,9 @@ use lib.Pow.{pow-pos, pow-mono}
 use lib.Bits.{bitXor, xor-self}
 use borrow.Author.Tests.{leb-true, leb-false}
 use Rattle.block.specs.Field.{times, double, horner, mul, power}
-use Rattle.block.proofs.Field.{mul-zero-l}
+use Rattle.block.proofs.Field.{mul-lt, mul-assoc, mul-zero-l, mul-one-l, mul-one-r}
 use Rattle.hash.specs.Brw.{logUpTo, log, split, cases, brwIn, brw}
-use Rattle.hash.specs.HashFacts.{HashFacts}
+use Rattle.hash.specs.HashFacts.{HashFacts, productOf}
 
 -- ---- the logarithm
 
@@ -104,6 +104,29 @@ pub brw-rule : (h : ℕ) (xs : List ℕ) (k t : ℕ) → length xs ≡ k → 4 �
 unfolding split
 brw-rule h xs k t len four e = rw (e, ← len) (brw-split h xs (omega arith))
 
+-- ---- the product of n factors h
+
+module _ (h : ℕ) (small : h < 2 ^ 128) where
+  product-lt : (n : ℕ) → productOf n h < 2 ^ 128
+  unfolding productOf
+  product-lt zero = lit< tt
+  product-lt (suc n) = mul-lt h (product-lt n)
+
+  product-add : (m n : ℕ) → productOf (m + n) h ≡ mul (productOf m h) (productOf n h)
+  unfolding productOf
+  product-add zero n = ap (λ (k : ℕ). productOf k h) (zero-add n) ∙ sym (mul-one-l (productOf n h))
+  product-add (suc m) n =
+      ap (λ (k : ℕ). productOf k h) (suc-add m n) ∙ ap (mul h) (product-add m n)
+      ∙ sym (mul-assoc small (product-lt m) (product-lt n))
+
+  -- squaring doubles the number of factors
+  power-product : (i : ℕ) → power h i ≡ productOf (2 ^ i) h
+  unfolding power productOf
+  power-product zero = sym (mul-one-r small)
+  power-product (suc i) =
+      let e : 2 ^ i + 2 ^ i ≡ 2 ^ suc i = omega (arith, pow-suc 2 i) in
+      ap₂ mul (power-product i) (power-product i) ∙ sym (product-add (2 ^ i) (2 ^ i)) ∙ ap (λ (k : ℕ). productOf k h) e
+
 -- ---- as stated
 
 row-h : (h y T : ℕ) → brw h (h ∷ y ∷ T ∷ []) ≡ T
@@ -116,6 +139,7 @@ hash-facts = record {
   recursion = brw-cases;
   log-le = λ k h. log-bounds k h .0;
   log-lt = λ k h. log-bounds k h .1;
+  power-is = λ h i small. power-product h small i;
   row-c = λ h. refl;
   row-d-two = refl;
   row-d-three = refl;

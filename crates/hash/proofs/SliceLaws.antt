@@ -2,7 +2,7 @@
 use mathlib.Core.Path.{_≡_, sym, ap, ap₂, _∙_}
 use mathlib.Core.List.{List, [], _∷_, _++_}
 use Prim.Native.Nat.{ℕ, suc, _+_, _-_, _*_, _/_, _^_, _≤_, _<_}
-use native.Mathlib.Nat.{le-refl, pow-suc}
+use native.Mathlib.Nat.{pow-suc}
 use native.Mathlib.Omega.{arith}
 use lib.ListN.{length, take, drop, getD, length-take, length-drop, length-append, drop-of-length-le, List·getD-append}
 use lib.Seq.{take-suc, take-all, take-append-le, drop-append-le, getD-at}
@@ -70,31 +70,21 @@ module _ (l : List ℕ) where
       ∙ sym (blocks-at (length l / 16 - n) behind part)
       ∙ ap blocksOf (sym (take-all (length l - 16 * n) behind (simp length-drop (omega arith))))
 
-  pub all-blocks : 0 < length l / 16 → blocksOf l ≡ firstBlocks l (length l / 16)
-  all-blocks p =
-      sym (take-all (length l / 16) (blocksOf l) (omega (arith, length-blocksOf)))
-      ∙ take-blocksOf (length l / 16) p (le-refl (length l / 16))
-
 -- ---- fewer than four blocks
 
-module _ (h : ℕ) (l : List ℕ) where
-  pub no-block : length l / 16 ≡ 0 → brw h (blocksOf l) ≡ 0
-  unfolding brw brwIn blocks
-  no-block e = rw (blocks-at 0 l e)
+module _ (h : ℕ) (l : List ℕ) (z : ℕ) where
+  pub one-block : length l / 16 ≡ 0 → brw h (withLast l z) ≡ z
+  unfolding brw brwIn cases blocks
+  one-block e = rw (blocks-at 0 l e)
 
-  module _ (z : ℕ) where
-    pub one-block : length l / 16 ≡ 0 → brw h (withLast l z) ≡ z
-    unfolding brw brwIn cases blocks
-    one-block e = rw (blocks-at 0 l e)
+  pub two-blocks : length l / 16 ≡ 1 → brw h (withLast l z) ≡ bitXor (mul (blockAt l 0) (power h 0)) z
+  unfolding brw brwIn cases blocks power
+  two-blocks e = rw (blocks-at 1 l e)
 
-    pub two-blocks : length l / 16 ≡ 1 → brw h (withLast l z) ≡ bitXor (mul (blockAt l 0) (power h 0)) z
-    unfolding brw brwIn cases blocks power
-    two-blocks e = rw (blocks-at 1 l e)
-
-    pub three-blocks : length l / 16 ≡ 2
-        → brw h (withLast l z) ≡ bitXor (mul (bitXor (power h 0) (blockAt l 0)) (bitXor (power h 1) (blockAt l 1))) z
-    unfolding brw brwIn cases blocks power
-    three-blocks e = rw (blocks-at 2 l e)
+  pub three-blocks : length l / 16 ≡ 2
+      → brw h (withLast l z) ≡ bitXor (mul (bitXor (power h 0) (blockAt l 0)) (bitXor (power h 1) (blockAt l 1))) z
+  unfolding brw brwIn cases blocks power
+  three-blocks e = rw (blocks-at 2 l e)
 
 -- ---- four blocks or more, cut at Xt
 

@@ -113,16 +113,3 @@ pub fn brw_last(p: &[u64; 18], x: &[u8], last: Block) -> Block
     let after = brw_last(p, &x[e..], last);
     mul_add(before, block::xor(power.element, xt), after)
 }
-
-// BRW of the blocks of x.
-pub fn brw(p: &[u64; 18], x: &[u8]) -> Block
-    requires { ⌜ Powers (now p) × (length (now x) < 8192) ⌝ }
-    ensures { λ r. ⌜ value r ≡ B.brw (keyOf (now (p .entry))) (blocksOf (now (x .entry))) ⌝ }
-{
-    let n = x.len() / 16;
-    if n == 0 {
-        return Block { hi: 0, lo: 0 };
-    }
-    let m = 16 * (n - 1);
-    brw_last(p, &x[..m], block::load(x, m))
-}
