@@ -52,11 +52,6 @@ pub double-zero : double 0 ≡ 0
 unfolding double times
 double-zero = refl
 
-double-times : (x b : ℕ) → double (times x b) ≡ times x (double b)
-unfolding times
-double-times zero b = double-zero
-double-times (suc x) b = refl
-
 -- no bit is pushed out
 pub double-small : {a : ℕ} → a < 2 ^ 127 → double a ≡ a * 2
 unfolding double times

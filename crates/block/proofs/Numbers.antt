@@ -2,7 +2,7 @@
 use mathlib.Core.Path.{_≡_, refl, sym, ap, ap₂, _∙_, subst}
 use mathlib.Core.Logic.{_⊎_, inl, inr}
 use Prim.Native.Nat.{ℕ, zero, suc, _+_, _-_, _*_, _/_, _%_, _^_, _≤_, _<_}
-use native.Mathlib.Nat.{div-lt-iff-lt-mul, div-add-mod', mod-eq-of-lt, suc-add, div-one, not-suc-le-zero, le-of-suc-le-suc, eq-or-lt-of-le, div-div-eq-div-mul, mul-add-div-right, mul-add-mod-self-right, zero-add, add-zero, mul-one, add-assoc, mul-assoc, add-mul, pow-suc, mul-comm, le-trans, le-of-eq, lt-of-lt-of-le, mod-lt, pow-le-pow-right}
+use native.Mathlib.Nat.{div-lt-iff-lt-mul, div-add-mod', mod-eq-of-lt, suc-add, div-one, not-suc-le-zero, le-of-suc-le-suc, eq-or-lt-of-le, div-div-eq-div-mul, mul-add-div-right, mul-add-mod-self-right, zero-add, add-zero, mul-one, add-assoc, mul-assoc, add-mul, pow-suc, mul-comm, lt-of-lt-of-le, mod-lt, pow-le-pow-right}
 use mathlib.Core.List.{List, [], _∷_, _++_, append-assoc, append-nil}
 use lib.ListN.{length, take, drop, getD, length-drop, length-append, List·getD-append}
 use lib.Pow.{shr-shr, high}
@@ -57,10 +57,6 @@ bytes-two b at m n h =
     ∙ number-scale (number 0 (take m (drop at b))) (take n (drop (at + m) b))
     ∙ ap (λ (k : ℕ). number 0 (take m (drop at b)) * 256 ^ k + number 0 (take n (drop (at + m) b)))
     (length-take-le n (drop (at + m) b) (simp length-drop (omega arith)))
-
--- room for one byte more in a word
-pub word-room : (i : ℕ) → i < 8 → 256 ^ i * 256 ≤ 2 ^ 64
-word-room i h = le-trans (le-of-eq (sym (pow-suc 256 i))) (pow-le-pow-right {n = 256} (lit< tt) {i = suc i} {j = 8} h)
 
 -- ---- the bytes of a number
 
