@@ -9,6 +9,7 @@ use Rattle.block.specs.Field.{times}
 use Rattle.aes.specs.Aes.{tabulate, xtime, mulBits, _•_, squares, inverse, rotateLeft, affine, sBox, sBoxTable, subBytes, shiftRows, mixColumns, addRoundKey, rounds, cipher, cipherNumber, rotWord, subWord, xpow, rcon, transform, nextWord, keyWords, extendBy, expand}
 use Rattle.aes.specs.Facts.{AesFacts}
 use Rattle.aes.proofs.Bytes.{tabulate-at, double-is}
+use Rattle.aes.proofs.Schedule.{rounds-expand}
 
 -- every byte times its inverse
 inverses : tabulate 256 (λ b. b • inverse b) ≡ 0 ∷ replicate 255 1
@@ -34,6 +35,7 @@ aes-facts = record {
   table-rule = rule;
   row-i-00 = refl;
   row-i-53 = refl;
+  rounds = rounds-expand;
   example-128 = refl;
   example-256 = refl;
 }

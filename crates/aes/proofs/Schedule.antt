@@ -1,13 +1,14 @@
 -- The key's expansion, which is filled in from the front, a word at a time. Assumes nothing.
 use mathlib.Core.Path.{_≡_, sym, ap, ap₂, _∙_}
 use mathlib.Core.List.{List, [], _∷_, _++_}
-use Prim.Native.Nat.{ℕ, suc, _+_, _-_, _≤_, _<_}
+use Prim.Native.Nat.{ℕ, zero, suc, _+_, _-_, _*_, _≤_, _<_}
+use native.Mathlib.Nat.{add-zero}
 use native.Mathlib.Numerals.{add-one}
 use native.Mathlib.Omega.{arith}
-use lib.ListN.{length, getD, take, drop, set}
+use lib.ListN.{length, getD, take, drop, set, length-append}
 use lib.Seq.{take-suc-set, take-all, take-at, getD-take}
 use Rattle.block.specs.Bytes.{fromBytes, part}
-use Rattle.aes.specs.Aes.{_⊕_, transform, nextWord, keyWords, extendBy}
+use Rattle.aes.specs.Aes.{_⊕_, roundsOf, transform, nextWord, keyWords, extendBy, expand}
 use Rattle.aes.proofs.Bytes.{length-tabulate, tabulate-at}
 
 -- ---- the key's own words
@@ -31,6 +32,17 @@ key-loaded nk i key d w e t =
 pub extend-start : (nk : ℕ) (ws : List ℕ) → ws ≡ extendBy nk ws (nk - nk)
 unfolding extendBy
 extend-start nk ws = let e : nk - nk ≡ 0 = omega arith in sym (ap (extendBy nk ws) e)
+
+length-extend : (nk : ℕ) (ws : List ℕ) (n : ℕ) → length (extendBy nk ws n) ≡ length ws + n
+unfolding extendBy
+length-extend nk ws zero = sym (add-zero (length ws))
+length-extend nk ws (suc n) = simp (length-append, length-extend nk ws n) (omega arith)
+
+pub rounds-expand : (nk nr : ℕ) (key : List ℕ) → nk ≤ 4 * (nr + 1) → roundsOf (expand nk nr key) ≡ nr
+unfolding expand
+rounds-expand nk nr key h =
+    let more : ℕ = 4 * (nr + 1) - nk in
+    omega (arith, length-extend nk (keyWords nk key) more, length-key nk key)
 
 -- one word more
 pub extend-turn : (nk i : ℕ) (ws w : List ℕ) (x : ℕ) → 0 < nk → nk ≤ i → i < length w → take i w ≡ extendBy nk ws (i - nk)

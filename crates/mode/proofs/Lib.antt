@@ -1,3 +1,4 @@
 pub mod Sizes
 pub mod Blockwise
 pub mod Laws
+pub mod KeyFacts

@@ -1,4 +1,5 @@
 pub mod Sealing
+pub mod KeyFacts
 pub mod Scheme
 pub mod Transforms
 pub mod Prepared

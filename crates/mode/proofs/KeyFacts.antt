@@ -1,0 +1,25 @@
+-- The round keys of a key of 32 bytes. Assumes nothing.
+use mathlib.Core.Path.{_≡_, ap, _∙_}
+use Prim.Native.Nat.{ℕ, _+_, _/_}
+use native.Mathlib.Omega.{arith}
+use lib.Dec.{lit≤}
+use lib.ListN.{length, length-drop}
+use Rattle.aes.specs.Aes.{expand, roundsOf}
+use Rattle.aes.proofs.Facts.{aes-facts}
+use Rattle.mode.specs.Sealing.{Key, cipherKey, roundKeys}
+use Rattle.mode.specs.KeyFacts.{KeyFacts}
+
+module _ (k : Key) (size : length (k .bytes) ≡ 32) where
+  sixteen : length (cipherKey k) ≡ 16
+  unfolding cipherKey
+  sixteen = simp length-drop (omega arith)
+
+  aes-128 : roundKeys k ≡ expand 4 10 (cipherKey k)
+  unfolding roundKeys
+  aes-128 = ap (λ (n : ℕ). expand (n / 4) (n / 4 + 6) (cipherKey k)) sixteen
+
+  ten : roundsOf (roundKeys k) ≡ 10
+  ten = ap roundsOf aes-128 ∙ aes-facts .rounds 4 10 (cipherKey k) (lit≤ tt)
+
+pub key-facts : KeyFacts
+key-facts = record { sixteen = sixteen; aes-128 = aes-128; ten = ten }
