@@ -159,16 +159,21 @@ halved : (q : ℕ) → q < 2 → double (times q 0x8000_0000_0000_0000 * 2 ^ 64 
 unfolding double times
 halved = bit-cases (λ (q : ℕ). double (times q 0x8000_0000_0000_0000 * 2 ^ 64 + times q 0x43) ≡ q) refl refl
 
+-- a word with the lowest bit of the word before it
+rotated : (a b : ℕ) → b < 2 ^ 64 → bitOr (a * 2 ^ 63 % 2 ^ 64) (b / 2) ≡ a % 2 * 2 ^ 63 + b / 2
+rotated a b h =
+    let e : a * 2 ^ 63 % 2 ^ 64 ≡ a % 2 * 2 ^ 63 =
+    mod-pow-add (a * 2 ^ 63) 1 63 ∙ ap₂ (λ (x y : ℕ). x % 2 * 2 ^ 63 + y) (shl-shr a 63) (mul-mod-left a (2 ^ 63)) ∙ add-zero (a % 2 * 2 ^ 63) in
+    ap (λ (x : ℕ). bitOr x (b / 2)) e ∙ or-shifted (a % 2) 63 (b / 2) (shr-lt 63 1 h)
+
+top : (q : ℕ) → q < 2 → q * 2 ^ 63 ≡ times q 0x8000_0000_0000_0000
+unfolding times
+top = bit-cases (λ (q : ℕ). q * 2 ^ 63 ≡ times q 0x8000_0000_0000_0000) refl refl
+
 -- m is the mask of the bit pushed out
 module _ (hi lo m : ℕ) (hh : hi < 2 ^ 64) (hl : lo < 2 ^ 64) (em : m ≡ times (lo % 2) ones) where
   abbrev p : ℕ
   p = lo % 2
-
-  low-word : bitOr (hi * 2 ^ 63 % 2 ^ 64) (lo / 2) ≡ hi % 2 * 2 ^ 63 + lo / 2
-  low-word =
-      let e : hi * 2 ^ 63 % 2 ^ 64 ≡ hi % 2 * 2 ^ 63 =
-      mod-pow-add (hi * 2 ^ 63) 1 63 ∙ ap₂ (λ (x y : ℕ). x % 2 * 2 ^ 63 + y) (shl-shr hi 63) (mul-mod-left hi (2 ^ 63)) ∙ add-zero (hi % 2 * 2 ^ 63) in
-      ap (λ (x : ℕ). bitOr x (lo / 2)) e ∙ or-shifted (hi % 2) 63 (lo / 2) (shr-lt 63 1 hl)
 
   low-small : hi % 2 * 2 ^ 63 + lo / 2 < 2 ^ 64
   low-small = digits-lt {m = 2} {c = 2 ^ 63} (bit-lt hi) (shr-lt 63 1 hl)
@@ -207,11 +212,14 @@ module _ (hi lo m : ℕ) (hh : hi < 2 ^ 64) (hl : lo < 2 ^ 64) (em : m ≡ times
       mul-two-l undone ∙ double-add half (high * 2 ^ 64 + low) ∙ ap₂ bitXor (double-small half-lt) (halved p p-lt)
       ∙ xor-shifted half 1 p p-lt ∙ both
 
-  pub undone-double : bitXor (hi / 2) (bitAnd m 0x8000_0000_0000_0000) * 2 ^ 64 + bitXor (bitOr (hi * 2 ^ 63 % 2 ^ 64) (lo / 2)) (bitAnd m 0x43)
+  high-word : bitOr (lo * 2 ^ 63 % 2 ^ 64) (hi / 2) ≡ bitXor (hi / 2) high
+  high-word =
+      rotated lo hi hh ∙ sym (xor-shifted p 63 (hi / 2) (shr-lt 63 1 hh))
+      ∙ ap (λ (x : ℕ). bitXor x (hi / 2)) (top p p-lt) ∙ xor-comm high (hi / 2)
+
+  pub undone-double : bitOr (lo * 2 ^ 63 % 2 ^ 64) (hi / 2) * 2 ^ 64 + bitXor (bitOr (hi * 2 ^ 63 % 2 ^ 64) (lo / 2)) (bitAnd m 0x43)
       ≡ mul x⁻¹ (hi * 2 ^ 64 + lo)
   undone-double =
-      ap₂ (λ (x y : ℕ). bitXor (hi / 2) x * 2 ^ 64 + bitXor (bitOr (hi * 2 ^ 63 % 2 ^ 64) (lo / 2)) y)
-      (under-mask p em (lit< tt)) (under-mask p em (lit< tt))
-      ∙ ap (λ (x : ℕ). bitXor (hi / 2) high * 2 ^ 64 + bitXor x low) low-word
+      ap₂ (λ (x y : ℕ). x * 2 ^ 64 + y) high-word (ap₂ bitXor (rotated hi lo hl) (under-mask p em (lit< tt)))
       ∙ sym (xor-block 64 (hi / 2) high (hi % 2 * 2 ^ 63 + lo / 2) low low-small low-lt)
       ∙ sym (x⁻¹-inverse undone-lt) ∙ ap (mul x⁻¹) doubled

@@ -53,14 +53,14 @@ pub fn triple(a: Block) -> Block
     xor(double(a), a)
 }
 
-// Undoes `double`: a shift right by one bit, and the inverse of x where the bit pushed out was 1.
+// Undoes `double`: a rotation right by one bit, and ⊕ 43 where the bit pushed out was 1. That bit at the top and 43 are the inverse of x.
 pub fn undo_double(c: Block) -> Block
     ensures { λ r. ⌜ value r ≡ F.mul x⁻¹ (value c) ⌝ }
 {
-    let out = mask(c.lo % 2);
+    let reduction = mask(c.lo % 2) & 0x43;
     Block {
-        hi: (c.hi >> 1) ^ (out & 0x8000_0000_0000_0000),
-        lo: ((c.hi << 63) | (c.lo >> 1)) ^ (out & 0x43),
+        hi: (c.lo << 63) | (c.hi >> 1),
+        lo: ((c.hi << 63) | (c.lo >> 1)) ^ reduction,
     }
 }
 

@@ -11,8 +11,8 @@ mask-requires c κs = search needs
 returns : tie.Need-returns
 unfolding value
 returns c =
-    let m = c .before .before .before .mask in
-    let a = c .before .before .before .before .before .args .c in
+    let m = c .before .before .before .before .mask in
+    let a = c .before .before .before .before .before .before .args .c in
     undone-double (a .hi) (a .lo) (m .result) (omega arith) (omega arith) (m .ensures)
 
 pub undo-double-spec : {M : Type 1} → statement M
