@@ -87,16 +87,18 @@ static void keep(void)
     }
 }
 
-/* The bytes that a call was to write from `at` on are due as these. */
-static void due(const uint8_t *at, const void *bytes, size_t length)
+/* The bytes that a call was to write from `at` on, all in one buffer, are due as these. */
+static void due(const uint8_t *at, const void *bytes, size_t length, int line)
 {
-    size_t i;
+    size_t i, found = 0;
     for (i = 0; i < lents; i++) {
         const uintptr_t place = (uintptr_t)at - (uintptr_t)lent[i].at;
-        if (place < lent[i].length) {
+        if (place < lent[i].length && length <= lent[i].length - place) {
             memcpy(lent[i].due + place, bytes, length);
+            found++;
         }
     }
+    check(found == 1, line, "bytes that are due", "are in no buffer that is lent");
 }
 
 static void as_due(int line, const char *call)
@@ -111,7 +113,7 @@ static void as_due(int line, const char *call)
 
 /* A call gives an answer; DUE then names what it writes, and NO_MORE says that every other byte is as before. */
 #define GIVES(answer, call) (keep(), answers(answer, call, __LINE__, #call))
-#define DUE(at, bytes, length) due(at, bytes, length)
+#define DUE(at, bytes, length) due(at, bytes, length, __LINE__)
 #define NO_MORE(call) as_due(__LINE__, call)
 #define REFUSES(refusal, call) (keep(), answers(refusal, call, __LINE__, #call), as_due(__LINE__, #call))
 
@@ -315,6 +317,14 @@ static void due_part(size_t number)
     DUE(remotes + number * SIZE, remote, SIZE);
 }
 
+/* Puts local, tag and remote into the parts of a sector. */
+static void put_part(size_t number)
+{
+    memcpy(locals + number * SIZE, local, SIZE);
+    memcpy(tags + number * MIRROR_TAG_BYTES, tag, MIRROR_TAG_BYTES);
+    memcpy(remotes + number * SIZE, remote, SIZE);
+}
+
 static void blanks(void)
 {
     size_t number;
@@ -363,6 +373,35 @@ static void stages(void)
     GIVES(MIRROR_DONE, mirror_third_stage(VOLUME, 1, PLAIN, IMAGES));
     DUE(remotes + SIZE, remote, SIZE);
     NO_MORE("mirror_third_stage");
+}
+
+/* Reads and mends of sector 1 refuse while its write stands at a clash, and a first stage is not due. */
+static void clashes_between(void)
+{
+    REFUSES(MIRROR_CLASHING, mirror_read(VOLUME, 1, IMAGES, OUT));
+    REFUSES(MIRROR_CLASHING, mirror_mend(VOLUME, 1, IMAGES));
+    REFUSES(MIRROR_STAGE_ORDER, mirror_first_stage(VOLUME, 1, PLAIN, IMAGES));
+}
+
+/* A write of (h, 1) over (h, 0), which have one tag: between the stages both fit two places. The next stage is due all the same. */
+static void stages_of_equal_tags(void)
+{
+    clash(1);
+    plain[SIZE - 1] = 0;
+    sealed(1);
+    put_part(1);
+    plain[SIZE - 1] = 1;
+    sealed(1);
+    GIVES(MIRROR_DONE, mirror_first_stage(VOLUME, 1, PLAIN, IMAGES));
+    DUE(locals + SIZE, local, SIZE);
+    NO_MORE("mirror_first_stage into a clash");
+    clashes_between();
+    GIVES(MIRROR_DONE, mirror_second_stage(VOLUME, 1, PLAIN, IMAGES));
+    NO_MORE("mirror_second_stage of the same tag");
+    clashes_between();
+    GIVES(MIRROR_DONE, mirror_third_stage(VOLUME, 1, PLAIN, IMAGES));
+    DUE(remotes + SIZE, remote, SIZE);
+    NO_MORE("mirror_third_stage out of a clash");
 }
 
 typedef uint32_t (*Stage)(size_t, size_t, size_t, size_t, const uint8_t *, size_t);
@@ -433,9 +472,7 @@ static void mends(void)
 static void damage_all(void)
 {
     clash(0);
-    memcpy(locals, local, SIZE);
-    memcpy(tags, tag, MIRROR_TAG_BYTES);
-    memcpy(remotes, remote, SIZE);
+    put_part(0);
     tags[MIRROR_TAG_BYTES] ^= 1;
     locals[2 * SIZE] ^= 1;
     remotes[3 * SIZE - 1] ^= 1;
@@ -513,6 +550,7 @@ int main(void)
     at_size(MIRROR_MOST_SECTOR);
     blanks();
     stages();
+    stages_of_equal_tags();
     stage_refuses(first, "mirror_first_stage");
     stage_refuses(second, "mirror_second_stage");
     stage_refuses(third, "mirror_third_stage");

@@ -2,7 +2,7 @@
 //! as methods.
 
 use crate::common::{bytes, clashing, key, sealed, Triple, COUNT, SIZE};
-use mirror::{Place, Refusal, Survey, Verdict, Volume, TAG_BYTES};
+use mirror::{Place, Refusal, Side, Survey, Verdict, Volume, TAG_BYTES};
 
 /// The three images.
 #[derive(Clone, Debug, PartialEq)]
@@ -82,6 +82,66 @@ fn a_write_in_three_stages() {
     let mut due = Images::blanked();
     due.put(1, &sealed(1, &plaintext));
     assert_eq!(images, due);
+}
+
+/// A volume whose sector 1 has a plaintext, and is about to be given another of
+/// the same tag. They differ in both halves of block 2.
+fn before_a_write_of_equal_tag() -> (Images, Vec<u8>, Vec<u8>) {
+    let (_, old, mut new) = clashing(1);
+    new[20] ^= 1;
+    let (mut images, triple) = (Images::blanked(), sealed(1, &old));
+    assert_eq!(sealed(1, &new).tag, triple.tag);
+    images.put(1, &triple);
+    (images, old, new)
+}
+
+/// Neither read nor mend, and no first stage.
+fn insist_on_clash(volume: &mut Volume, plaintext: &[u8]) {
+    let clashing = Err(Refusal::Clashing);
+    assert_eq!(volume.read(1, &mut [0; SIZE]), clashing);
+    assert_eq!(volume.mend(1), clashing);
+    let early = Err(Refusal::StageOrder);
+    assert_eq!(volume.first_stage(1, plaintext), early);
+}
+
+#[test]
+fn a_clash_between_stages_ends_with_the_third() {
+    let key = key();
+    let (mut images, _, new) = before_a_write_of_equal_tag();
+    let mut volume = images.volume(&key);
+    assert_eq!(volume.first_stage(1, &new), Ok(()));
+    insist_on_clash(&mut volume, &new);
+    assert_eq!(volume.second_stage(1, &new), Ok(()));
+    insist_on_clash(&mut volume, &new);
+    // As after a cut in the second stage, or in the third.
+    assert_eq!(volume.second_stage(1, &new), Ok(()));
+    assert_eq!(volume.third_stage(1, &new), Ok(()));
+    let mut output = [0; SIZE];
+    assert_eq!(volume.read(1, &mut output), Ok(Verdict::Whole));
+    assert_eq!(output[..], new);
+}
+
+/// A first stage that is cut within block 2 leaves the local sector of a third
+/// plaintext of that tag. What fits tag and remote sector is still the old one.
+#[test]
+fn a_first_stage_cut_into_a_clash_is_undone_by_rebuilding() {
+    let key = key();
+    let (mut images, old, new) = before_a_write_of_equal_tag();
+    let torn = SIZE..SIZE + 24;
+    images.local[torn].copy_from_slice(&sealed(1, &new).local[..24]);
+    let volume = &mut images.volume(&key);
+    insist_on_clash(volume, &new);
+    let early = Err(Refusal::StageOrder);
+    assert_eq!(volume.second_stage(1, &new), early);
+    assert_eq!(volume.third_stage(1, &new), early);
+
+    let (tag, remote) = (&volume.tags[16..32], &volume.remote[SIZE..2 * SIZE]);
+    let local = &mut volume.local[SIZE..2 * SIZE];
+    let rebuilt = mirror::rebuild(&key, 1, Side::Remote, remote, tag, local);
+    assert_eq!(rebuilt, Ok(()));
+    let mut output = [0; SIZE];
+    assert_eq!(volume.read(1, &mut output), Ok(Verdict::Whole));
+    assert_eq!(output[..], old);
 }
 
 #[test]

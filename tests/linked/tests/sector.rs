@@ -258,8 +258,10 @@ impl<'a> Trial<'a> {
         let (one, other) = blind_pair(self.h(), &blocks, change);
         self.insist_on_clash(&to_bytes(&one), &to_bytes(&other));
         let other = to_blocks(&self.rng.bytes(self.size));
-        if let Some(other) = steer(self.h(), self.address, &blocks, &other) {
-            self.insist_on_clash(plain, &to_bytes(&other));
+        match steer(self.h(), self.address, &blocks, &other) {
+            Some(other) => self.insist_on_clash(plain, &to_bytes(&other)),
+            // Where h^t and the tweak are both zero, their sum may be a factor.
+            None => assert_eq!((self.h(), self.address), (0, 0)),
         }
     }
 

@@ -113,13 +113,9 @@ fn openssl_agrees() {
         rng.fill(&mut short);
         rng.fill(&mut long);
         let data = rng.bytes(16 * 256);
-        let Some(outside) = common::openssl_ecb(&short, &data) else {
-            return;
-        };
+        let outside = common::openssl_ecb(&short, &data);
         assert_eq!(outside, encrypt_all(&Aes128::new(&short), &data));
-        let Some(outside) = common::openssl_ecb(&long, &data) else {
-            return;
-        };
+        let outside = common::openssl_ecb(&long, &data);
         assert_eq!(outside, encrypt_all(&Aes256::new(&long), &data));
     }
 }

@@ -1,5 +1,6 @@
 //! The program `frames`, as a function and as a program.
 
+use std::collections::BTreeSet;
 use std::io::Write;
 use std::process::{Command, Stdio};
 
@@ -41,6 +42,19 @@ fn the_program_runs_the_function() {
     let result = child.wait_with_output().expect("it ends");
     assert!(result.status.success());
     assert_eq!(result.stdout, output.as_bytes());
+}
+
+/// The input that is stored for the proved program meets every answer.
+#[test]
+fn made_frames_have_every_answer() {
+    let output = Command::new(env!("CARGO_BIN_EXE_make_frames"))
+        .output()
+        .expect("the program was built");
+    assert!(output.status.success());
+    let answers = String::from_utf8(run(&output.stdout)).expect("digits and line feeds");
+    let numbers: BTreeSet<&str> = answers.lines().map(|line| &line[..2]).collect();
+    let due = ["00", "02", "03", "06", "07", "0c", "81", "82", "83"];
+    assert_eq!(numbers, due.into());
 }
 
 #[test]

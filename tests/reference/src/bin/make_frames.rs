@@ -42,10 +42,9 @@ struct Maker {
 impl Maker {
     /// Adds a line, and insists on how its answer begins.
     fn due(&mut self, line: impl AsRef<[u8]>, answer: &[u8]) {
-        let line = line.as_ref();
-        assert!(run(line).starts_with(answer) || line.is_empty());
-        self.text.extend_from_slice(line);
-        self.text.push(b'\n');
+        let line = [line.as_ref(), b"\n"].concat();
+        assert!(run(&line).starts_with(answer));
+        self.text.extend(line);
     }
 
     /// The same in lower, upper and mixed case.
@@ -156,10 +155,10 @@ impl Maker {
         }
     }
 
-    /// Every number of bytes near a boundary.
+    /// Every number of bytes near a boundary; of random bytes, so that a frame
+    /// to be judged is lost.
     fn lengths(&mut self) {
-        for beside in [57, 1] {
-            let kind = if beside == 57 { "01" } else { "02" };
+        for (kind, beside, answered) in [("01", 57, "06"), ("02", 1, "00")] {
             let near = |size: usize| beside + 2 * size;
             let mut all = vec![1, 2, 3, 55, 56, 57, 58, 59];
             for size in [8, 15, 16, 17, 24, 31, 33, 4095, 4097, 4112] {
@@ -168,8 +167,14 @@ impl Maker {
             for bytes in all {
                 let rest = self.rng.bytes(bytes - 1);
                 let line = format!("{kind}{}", hex::encode(&rest));
-                let answer = run(line.as_bytes());
-                self.due(&line, &answer);
+                let answer = match bytes.checked_sub(beside) {
+                    None => "0c",
+                    Some(_) if bytes > 8249 => "0c",
+                    Some(sectors) if sectors % 2 == 1 => "03",
+                    Some(32) => answered,
+                    Some(_) => "02",
+                };
+                self.due(&line, answer.as_bytes());
             }
         }
     }

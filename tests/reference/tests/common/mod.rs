@@ -28,19 +28,21 @@ pub fn direct_brw(h: u128, x: &[u128]) -> u128 {
     }
 }
 
-/// Encrypts with the `openssl` command in ECB mode. Gives nothing, after a
-/// message, where there is no such command.
-pub fn openssl_ecb(key: &[u8], data: &[u8]) -> Option<Vec<u8>> {
+/// Encrypts with the `openssl` command in ECB mode. Where there is no such
+/// command the test fails: without it nothing from outside is compared.
+pub fn openssl_ecb(key: &[u8], data: &[u8]) -> Vec<u8> {
     let cipher = format!("-aes-{}-ecb", 8 * key.len());
     let started = Command::new("openssl")
         .args(["enc", &cipher, "-nopad", "-K", &hex::encode(key)])
         .stdin(Stdio::piped())
         .stdout(Stdio::piped())
         .spawn();
-    let Ok(mut child) = started else {
-        println!("skipped: there is no openssl command here");
-        return None;
-    };
+    let mut child = started.unwrap_or_else(|error| {
+        panic!(
+            "the command `openssl` does not start ({error}): install it, \
+             as by `apt install openssl`, and put it on the path"
+        )
+    });
     // The data is far below what a pipe holds, so this write cannot block.
     assert!(data.len() <= 8192);
     let mut stdin = child.stdin.take().expect("standard input is piped");
@@ -48,5 +50,6 @@ pub fn openssl_ecb(key: &[u8], data: &[u8]) -> Option<Vec<u8>> {
     drop(stdin);
     let output = child.wait_with_output().expect("openssl ends");
     assert!(output.status.success(), "openssl failed");
-    Some(output.stdout)
+    assert_eq!(output.stdout.len(), data.len(), "openssl gives as much");
+    output.stdout
 }
