@@ -2,9 +2,11 @@
  * mirror.h: the double ciphertext mirror (libmirror.a, x86-64 Linux; C99 or C++). SPDX-License-Identifier: Apache-2.0
  *
  * A SECTOR is kept in three places: a local sector, a tag and a remote sector. Sealing makes all three from a plaintext, under a key and
- * an address. Any two of them give the plaintext back, so damage to one place is found and can be mended.
+ * an address. Any two of them give the plaintext back, so damage to one place is found and can be mended, unless another plaintext happens
+ * to fit two places as well (clashing).
  *
- *   key        32 bytes: the hash key h (16 bytes), then the AES-128 key K (16 bytes)
+ *   key        32 bytes: the hash key h (16 bytes), then the AES-128 key K (16 bytes). Choosing both is the caller's part. Not zeros for h:
+ *              all plaintexts would have one tag, and a sector with a damaged side would clash.
  *   sector     s bytes, s a multiple of 16 from 16 to 4,096; the plaintext, the local and the remote sector all have s bytes
  *   tag        16 bytes
  *   address    any 64-bit number; a sector is judged at the address that it was sealed at
@@ -30,11 +32,22 @@
  *
  * MEMORY AND THREADS. A call keeps no state between calls, allocates nothing and does no input or output. It needs memcpy and memset from
  * the C library and nothing else. It uses less than 20 KiB of stack (MIRROR_STACK_BYTES; measured, not proved). Calls may run at once in
- * several threads if no buffer that one of them may write is lent to another.
+ * several threads if no buffer that one of them may write is lent to another. A call on a volume is lent whole images, so on one volume
+ * only reads and surveys may run at once.
  *
- * POWER CUTS. The calls on a volume work on images in memory. What is promised about power cuts holds if the caller sees to this:
- *   - what a call wrote has reached the medium before the next call on that sector begins;
- *   - after a cut a tag whose write had begun is the old one or the new one, never a mixture. A half-written sector may hold anything.
+ * POWER CUTS. The calls on a volume work on images in memory; the caller writes out the part that a call changed, and flushes it. What is
+ * promised of a volume after a power cut holds if the caller sees to all of this:
+ *   - A call is FINISHED only once what it wrote is on the medium. Until then a power cut, whenever it comes and whatever is being done on
+ *     other sectors, is a cut in that call, and so is writing out that fails. After it, load the images from the medium again.
+ *   - So flush before the next call on the volume. If several calls are not finished when the power goes, it is a cut in each of them, and
+ *     no two may be on one sector: that is outside the promise. A second stage over a first that is not on the medium can lose the sector.
+ *   - Writing out one sector's part, cut or not, leaves every other sector as it was. A medium writes units, often of 512 bytes; 32 tags
+ *     share such a unit, and so do sectors whose size is no multiple of it. If a cut can tear or lose a unit, the neighbours in it go too.
+ *     So the medium writes a unit whole or not at all, or the caller gives each part units of its own, or keeps a journal.
+ *   - A tag goes out in one write that the medium does whole: after a cut it is the old one or the new one, never a mixture. A local or
+ *     remote sector whose write had begun may then hold anything.
+ *   - The images are private memory. A call stores a tag byte by byte: in a shared mapping of the medium (mmap with MAP_SHARED) a kill or a
+ *     power cut between two bytes leaves a mixture, and the sector is lost.
  *
  * EXAMPLE, linked by `cc -Iinclude program.c target/staticlib/libmirror.a`:
  *
@@ -82,8 +95,8 @@
 #define MIRROR_UNKNOWN_SIDE 4u  /* the side is neither MIRROR_LOCAL nor MIRROR_REMOTE: name one of them */
 #define MIRROR_NONE_FITS 5u     /* no plaintext fits this side and this tag: try the other side, or judge if both are there */
 #define MIRROR_LOST 6u          /* no plaintext fits two places: check the key on other sectors; then blank, and write from a backup */
-#define MIRROR_CLASHING 7u      /* more than one plaintext fits two places: repeat the third stage if a write was under way; otherwise
-                                   open each side, combine both, choose, blank, and write the choice */
+#define MIRROR_CLASHING 7u      /* more than one plaintext fits two places: if a write was under way, go on with its second and third
+                                   stage; otherwise open each side, combine both, choose, blank, and write the choice */
 #define MIRROR_VOLUME_SHAPE 8u  /* n is not 1 to 65,536, or an image has another length than s and n ask for: check s, n and the images */
 #define MIRROR_SECTOR_NUMBER 9u /* the number is not below n: sectors count from 0 */
 #define MIRROR_STAGE_ORDER 10u  /* this stage is not due: read the sector, mend it if doubtful, and begin with the first stage */
@@ -178,13 +191,21 @@ MIRROR_ANSWER mirror_blank(const uint8_t *key, size_t key_len, size_t s, size_t 
                            uint8_t *tags, size_t tags_len, uint8_t *remote, size_t remote_len);
 
 /*
- * A write is three calls with the same plaintext, in this order, each done and on the medium before the next begins. Each writes only the
- * sector's part of the one image that it takes without const. After a cut in a write: read the sector, mend it if doubtful, and see by
- * the plaintext whether to write again. The sector gives the old plaintext until the tag is written, and the new one from then on.
+ * A write is three calls with the same plaintext, in this order, each finished (see POWER CUTS) before the next begins. Each writes only
+ * the sector's part of the one image that it takes without const.
  *
- * First stage: writes the local sector. 10 if the sector is not whole: mend it, or go by the answer that a read of it gives.
- * Second stage: writes the tag. 10 if the plaintext does not fit the local sector: begin again with the first stage.
- * Third stage: writes the remote sector. 10 if the plaintext does not fit both local sector and tag: begin again with the first stage.
+ * Between the stages and after a cut in one, a read gives the old plaintext until the tag is written and the new one from then on, or it
+ * refuses 7: that only if another plaintext fits two places, as the old or the new one does where both have the same tag. Read and mend
+ * then refuse 7 until the write goes on. The next stage with the same plaintext is accepted all the same, and the third ends the clash.
+ *
+ * After a cut in a write: read the sector. If it is doubtful, mend it, and see by the plaintext whether to write again. If it clashes, make
+ * the second and the third stage with the same plaintext. If the second refuses 10, the first was cut, and the old plaintext still fits tag
+ * and remote sector: mirror_rebuild from the remote side gives the local sector that belongs there.
+ *
+ * First stage: writes the local sector. 10 if the sector is not whole: go by the answer that a read of it gives.
+ * Second stage: writes the tag. 10 if the plaintext does not fit the local sector.
+ * Third stage: writes the remote sector. 10 if the plaintext does not fit both local sector and tag.
+ * After 10 from the second or third: read the sector, mend it if doubtful, and begin again with the first stage.
  *   1, 2, 8, 9 as mirror_blank
  *   3 plain_len is not s
  *   10 the stage is not due
@@ -214,7 +235,8 @@ MIRROR_ANSWER mirror_read(const uint8_t *key, size_t key_len, size_t s, size_t n
 
 /*
  * Mends one sector: writes the doubtful place anew, as the one plaintext seals, and nothing if the sector is whole. The answer is what it
- * found before; afterwards the sector is whole. Where it refuses 6 or 7 it has written nothing. After a cut: mend again.
+ * found before; afterwards the sector is whole. Where it refuses 6 or 7 it has written nothing. Write out the place that the answer names.
+ * After a cut: mend again.
  *   1, 2, 8, 9 as mirror_blank
  *   6 lost
  *   7 clashing

@@ -31,13 +31,14 @@ fn main() -> Result<(), Refusal> {
     lose(&mut volume)
 }
 
-/// Writes a text to a sector: three stages with one plaintext.
+/// Writes a text to a sector: three stages with one plaintext. This volume is in
+/// memory only; on a medium, what a stage wrote is written out and flushed before
+/// the next call.
 fn write(volume: &mut Volume, number: usize, text: &[u8]) -> Result<(), Refusal> {
     let mut plaintext = [0; SIZE];
     plaintext[..text.len()].copy_from_slice(text);
     volume.first_stage(number, &plaintext)?;
     show(volume, "first stage done")?;
-    // A device would be flushed here, and after the second stage.
     volume.second_stage(number, &plaintext)?;
     show(volume, "second stage done")?;
     volume.third_stage(number, &plaintext)?;

@@ -166,7 +166,7 @@ impl Refusal {
                  if it is, blank the sector and write it from a backup"
             }
             Refusal::Clashing => {
-                "repeat the third stage if a write was under way; \
+                "if a write was under way, go on with its second and third stage; \
                  otherwise open each side and combine both, choose, blank the sector and write the choice"
             }
             Refusal::VolumeShape => "check the size, the count and the three images",

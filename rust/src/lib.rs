@@ -3,12 +3,13 @@
 //! A **sector** is kept in three places: a local sector, a tag and a remote
 //! sector. Sealing makes all three from a plaintext, under a key and an address.
 //! Any two of them give the plaintext back, so damage to one place is found and
-//! can be mended. A **volume** is a number of sectors in three images; sector
-//! `i`, from 0, has address `i`.
+//! can be mended, unless another plaintext happens to fit two places as well
+//! ([`Clashing`](Refusal::Clashing)). A **volume** is a number of sectors in
+//! three images; sector `i`, from 0, has address `i`.
 //!
 //! | what | how many bytes |
 //! |---|---|
-//! | key | 32: the hash key h, then the AES-128 key |
+//! | key | 32: the hash key h (not zeros: all tags would be equal), then the AES-128 key |
 //! | plaintext, local sector, remote sector | the size, a multiple of 16 from 16 to 4,096 |
 //! | tag | 16 |
 //! | images of a volume of n sectors, n from 1 to 65,536 | local and remote n times the size, tags n times 16 |
@@ -43,8 +44,9 @@
 //!
 //! # A volume
 //!
-//! A write is three stages with one plaintext. [`Volume`] saves the repeated
-//! arguments; each method is also a function.
+//! A write is three stages with one plaintext, and what each wrote is on the
+//! medium before the next begins ([Power cuts](#power-cuts)). [`Volume`] saves
+//! the repeated arguments; each method is also a function.
 //!
 //! ```
 //! use mirror::{Place, Refusal, Verdict, Volume};
@@ -63,9 +65,9 @@
 //! }
 //!
 //! let plaintext = [42; 512];
-//! volume.first_stage(2, &plaintext)?;
-//! volume.second_stage(2, &plaintext)?;
-//! volume.third_stage(2, &plaintext)?;
+//! volume.first_stage(2, &plaintext)?; // now write out the local sector, and flush
+//! volume.second_stage(2, &plaintext)?; // the tag
+//! volume.third_stage(2, &plaintext)?; // the remote sector
 //!
 //! volume.remote[2 * size] ^= 1;
 //! assert_eq!(volume.mend(2)?, Verdict::Doubtful(Place::Remote));
@@ -83,10 +85,43 @@
 //!
 //! # Power cuts
 //!
-//! The calls work on images in memory. What is promised about power cuts holds
-//! if what a call wrote has reached the medium before the next call on that
-//! sector begins, and if a tag whose write was cut is the old or the new one,
-//! never a mixture. After a cut, read the sector and mend it if it is doubtful.
+//! The calls work on images in memory; the caller writes out the part that a
+//! call changed, and flushes it. What is promised of a volume after a power cut
+//! holds if the caller sees to all of this:
+//!
+//! - **A call is finished only once what it wrote is on the medium.** Until then
+//!   a power cut, whenever it comes and whatever is being done on other sectors,
+//!   is a cut in that call, and so is writing out that fails. After it, load the
+//!   images from the medium again.
+//! - **Flush before the next call on the volume.** If several calls are not
+//!   finished when the power goes, it is a cut in each of them, and no two may be
+//!   on one sector: that is outside the promise. A second stage over a first that
+//!   is not on the medium can lose the sector.
+//! - **Writing out one sector's part leaves every other sector as it was**, cut or
+//!   not. A medium writes units, often of 512 bytes; 32 tags share such a unit,
+//!   and so do sectors whose size is no multiple of it. If a cut can tear or lose
+//!   a unit, the neighbours in it go too. So the medium writes a unit whole or not
+//!   at all, or the caller gives each part units of its own, or keeps a journal.
+//! - **A tag goes out in one write that the medium does whole**: after a cut it is
+//!   the old one or the new one, never a mixture. A local or remote sector whose
+//!   write had begun may then hold anything.
+//! - **The images are private memory.** A call stores a tag byte by byte: in a
+//!   shared mapping of the medium a kill or a power cut between two bytes leaves a
+//!   mixture, and the sector is lost.
+//!
+//! Between the stages of a write and after a cut in one, a read gives the old
+//! plaintext until the tag is written and the new one from then on, or it refuses
+//! [`Clashing`](Refusal::Clashing): that only if another plaintext fits two
+//! places, as the old or the new one does where both have the same tag. Read and
+//! mend then refuse until the write goes on. The next stage with the same
+//! plaintext is accepted all the same, and the third ends the clash.
+//!
+//! After a cut, read the sector. If it is doubtful, mend it, and see by the
+//! plaintext whether to write again. If it clashes, make the second and the third
+//! stage with the same plaintext. If the second is refused
+//! ([`StageOrder`](Refusal::StageOrder)), the first was cut, and the old plaintext
+//! still fits tag and remote sector: [`rebuild`] from the remote side gives the
+//! local sector that belongs there.
 //!
 //! # Secrets
 //!
@@ -98,7 +133,8 @@
 //! # Memory and threads
 //!
 //! A call keeps no state, allocates nothing and uses less than 20 KiB of stack
-//! (measured, not proved). It may be made from any thread.
+//! (measured, not proved). It may be made from any thread. A call that writes
+//! borrows a whole image, so on one volume only reads and surveys run at once.
 
 #![deny(missing_docs)]
 #![deny(clippy::undocumented_unsafe_blocks)]

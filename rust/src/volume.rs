@@ -4,7 +4,8 @@ use crate::answer::{done, judged};
 use crate::{ffi, Refusal, Verdict};
 
 /// Blanks one sector: seals zeros into its part of all three images, whatever
-/// was there. Each sector of a new volume is blanked before its first write.
+/// was there. Each sector of a new volume is blanked before its first write. A
+/// cut leaves anything in the sector: blank it again.
 ///
 /// # Errors
 ///
@@ -41,14 +42,17 @@ pub fn blank(
 
 /// The first stage of a write: writes the plaintext's local sector.
 ///
-/// The three stages take one plaintext. What each wrote has reached the medium
-/// before the next begins.
+/// The three stages take one plaintext. What each wrote is on the medium before
+/// the next begins; see [power cuts](crate#power-cuts), also for what a read
+/// gives in between: the old plaintext until the tag is written, then the new
+/// one, or [`Clashing`](Refusal::Clashing) until the write goes on.
 ///
 /// # Errors
 ///
 /// Those of [`blank`], then in this order:
 /// [`OtherLength`](Refusal::OtherLength) of the plaintext;
-/// [`StageOrder`](Refusal::StageOrder) if the sector is not whole.
+/// [`StageOrder`](Refusal::StageOrder) if the sector is not whole: go by what
+/// [`read`] answers.
 pub fn first_stage(
     key: &[u8],
     size: usize,
@@ -80,6 +84,9 @@ pub fn first_stage(
 }
 
 /// The second stage of a write: writes the plaintext's tag.
+///
+/// It is accepted after the first stage with this plaintext also where a read
+/// refuses [`Clashing`](Refusal::Clashing).
 ///
 /// # Errors
 ///
@@ -118,6 +125,9 @@ pub fn second_stage(
 }
 
 /// The third stage of a write: writes the plaintext's remote sector.
+///
+/// It is accepted after the second stage with this plaintext also where a read
+/// refuses [`Clashing`](Refusal::Clashing), and ends the clash.
 ///
 /// # Errors
 ///
@@ -158,7 +168,8 @@ pub fn third_stage(
 /// Reads one sector: judges it and writes its plaintext to the output.
 ///
 /// It mends nothing. If the sector is doubtful, [`mend`] it soon: damage to a
-/// second place can lose it.
+/// second place can lose it. If it clashes and a write was under way, go on with
+/// the write's next stage.
 ///
 /// # Errors
 ///
@@ -198,7 +209,8 @@ pub fn read(
 /// Mends one sector: writes the doubtful place anew, as the one plaintext
 /// seals, and nothing if the sector is whole.
 ///
-/// The verdict is what it found before; afterwards the sector is whole.
+/// The verdict is what it found before; afterwards the sector is whole. Write
+/// out the place that it names. After a cut, mend again.
 ///
 /// # Errors
 ///
@@ -308,6 +320,12 @@ pub fn survey<'l>(
 ///
 /// Each method is the function of that name. Nothing is checked when the value
 /// is made; every call checks for itself.
+///
+/// The images are private memory, not a shared mapping of the medium, and the
+/// caller writes out what a call changed. A call is finished only once that is
+/// on the medium; a power cut before is a cut in that call. Flush before the next
+/// call on the volume, and see [power cuts](crate#power-cuts) for what else a
+/// medium has to keep.
 pub struct Volume<'a> {
     /// The key: 32 bytes.
     pub key: &'a [u8],
