@@ -15,7 +15,7 @@ static uint8_t local[COUNT * SIZE], tags[COUNT * MIRROR_TAG_BYTES], remote[COUNT
 
 #define IMAGES local, sizeof local, tags, sizeof tags, remote, sizeof remote
 
-/* These images are in memory only. On a medium, what a stage wrote is written out and flushed before the next call: see mirror.h, POWER CUTS. */
+/* These images are in memory only. On a medium, what a stage wrote is written out and flushed before the next call: mirror.h, POWER CUTS. */
 static uint32_t write_sector(size_t number, const uint8_t plain[SIZE])
 {
     uint32_t answer = mirror_first_stage(key, sizeof key, SIZE, COUNT, number, plain, SIZE, IMAGES);
