@@ -200,7 +200,7 @@ MIRROR_ANSWER mirror_blank(const uint8_t *key, size_t key_len, size_t s, size_t 
  *
  * After a cut in a write: read the sector. If it is doubtful, mend it, and see by the plaintext whether to write again. If it clashes, make
  * the second and the third stage with the same plaintext. If the second refuses 10, the first was cut, and the old plaintext still fits tag
- * and remote sector: mirror_rebuild from the remote side gives the local sector that belongs there.
+ * and remote sector: mirror_rebuild from the remote side (the address is the sector's number) gives the local sector that belongs there.
  *
  * First stage: writes the local sector. 10 if the sector is not whole: go by the answer that a read of it gives.
  * Second stage: writes the tag. 10 if the plaintext does not fit the local sector.

@@ -8,7 +8,7 @@ use mirror::{judge, Refusal, Volume, KEY_BYTES, TAG_BYTES};
 const SIZE: usize = 64;
 const COUNT: usize = 4;
 
-fn main() -> Result<(), Refusal> {
+pub fn main() -> Result<(), Refusal> {
     let mut key = [0; KEY_BYTES];
     for (byte, value) in key.iter_mut().zip(1..) {
         *byte = value;

@@ -120,8 +120,8 @@
 //! plaintext whether to write again. If it clashes, make the second and the third
 //! stage with the same plaintext. If the second is refused
 //! ([`StageOrder`](Refusal::StageOrder)), the first was cut, and the old plaintext
-//! still fits tag and remote sector: [`rebuild`] from the remote side gives the
-//! local sector that belongs there.
+//! still fits tag and remote sector: [`rebuild`] from the remote side (the address
+//! is the sector's number) gives the local sector that belongs there.
 //!
 //! # Secrets
 //!

@@ -144,6 +144,25 @@ fn a_first_stage_cut_into_a_clash_is_undone_by_rebuilding() {
     assert_eq!(output[..], old);
 }
 
+/// Why a caller must rule these out: a stored tag that is a mixture of the old
+/// and the new one, and a new tag beside a torn local sector, as two stages that
+/// are both not on the medium may leave.
+#[test]
+fn a_mixed_tag_or_two_unfinished_stages_lose_a_sector() {
+    let (key, new) = (key(), sealed(1, &bytes(1)));
+    let lost = Err(Refusal::Lost);
+    for stored in 1..TAG_BYTES {
+        let mut images = Images::blanked();
+        images.local[SIZE..2 * SIZE].copy_from_slice(&new.local);
+        images.tags[TAG_BYTES..][..stored].copy_from_slice(&new.tag[..stored]);
+        assert_eq!(images.volume(&key).read(1, &mut [0; SIZE]), lost);
+    }
+    let mut images = Images::blanked();
+    images.local[SIZE..SIZE + 24].copy_from_slice(&new.local[..24]);
+    images.tags[TAG_BYTES..2 * TAG_BYTES].copy_from_slice(&new.tag);
+    assert_eq!(images.volume(&key).read(1, &mut [0; SIZE]), lost);
+}
+
 #[test]
 fn mends_each_place() {
     let due = Images::blanked();
