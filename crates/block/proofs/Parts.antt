@@ -1,13 +1,13 @@
 -- Laws of the parts of a list. Assumes nothing.
-use mathlib.Core.Path.{_≡_, sym, _∙_, ap, subst}
+use mathlib.Core.Path.{_≡_, sym, _∙_, ap, ap₂, subst}
 use mathlib.Core.Logic.{_⊎_, inl, inr}
 use mathlib.Core.List.{List, _++_, append-assoc}
-use Prim.Native.Nat.{ℕ, _+_, _*_, _-_, _≤_, _<_, min}
-use native.Mathlib.Nat.{suc-mul, mul-le-mul-right}
+use Prim.Native.Nat.{ℕ, zero, suc, _+_, _*_, _-_, _≤_, _<_, min}
+use native.Mathlib.Nat.{zero-mul, suc-mul, mul-le-mul-right}
 use native.Mathlib.Decide.{decLt}
 use native.Mathlib.Omega.{arith}
 use lib.ListN.{length, take, drop, getD, length-append, length-take, length-drop, List·getD-append}
-use lib.Seq.{length-take-le, take-at, drop-at, getD-take, getD-drop, getD-append-add, ext-getD}
+use lib.Seq.{length-take-le, take-add, take-all, take-at, drop-at, getD-take, getD-drop, getD-append-add, ext-getD}
 use Rattle.block.specs.Bytes.{Bytes, part, patch}
 use Rattle.block.proofs.Lists.{bytes-take, bytes-drop, bytes-append}
 
@@ -91,3 +91,17 @@ module _ (w n i : ℕ) (lt : i < n) (image : List ℕ) (long : length image ≡ 
             ∙ apart k h (ne-lt j i ne)
             ∙ sym (getD-drop (j * w) image k 0)
             ∙ sym (getD-take w (drop (j * w) image) k 0 h)
+
+-- a list is known by its parts
+parts-take : (w n : ℕ) (x y : List ℕ) → ((j : ℕ) → j < n → part w j x ≡ part w j y) → take (n * w) x ≡ take (n * w) y
+unfolding part
+parts-take w zero x y h = ap (λ (k : ℕ). take k x) (zero-mul w) ∙ sym (ap (λ (k : ℕ). take k y) (zero-mul w))
+parts-take w (suc n) x y h =
+    ap (λ (k : ℕ). take k x) (suc-mul n w)
+    ∙ take-add (n * w) w x
+    ∙ ap₂ _++_ (parts-take w n x y (λ j l. h j (omega arith))) (h n (omega arith))
+    ∙ sym (take-add (n * w) w y)
+    ∙ ap (λ (k : ℕ). take k y) (sym (suc-mul n w))
+
+pub parts-all : (w n : ℕ) (x y : List ℕ) → length x ≡ n * w → length y ≡ n * w → ((j : ℕ) → j < n → part w j x ≡ part w j y) → x ≡ y
+parts-all w n x y p q h = sym (take-all (n * w) x (omega arith)) ∙ parts-take w n x y h ∙ take-all (n * w) y (omega arith)

@@ -1,17 +1,15 @@
 -- A cut leaves exactly what document 01's rule allows. Assumes nothing but the laws of the sealing.
-use mathlib.Core.Path.{_≡_, refl, sym, _∙_, ap, ap₂, subst}
+use mathlib.Core.Path.{_≡_, refl, sym, _∙_, ap, subst}
 use mathlib.Core.Logic.{_↔_, _⊎_, inl, inr, ⊎-elim}
 use mathlib.Core.Bool.{Bool, true, false, cond}
-use mathlib.Core.List.{List, [], _∷_, _++_, List·Memᴰ, List·Memᴰ·head, List·Memᴰ·tail, List·Memᴰ·not-nil, List·Memᴰ·cases-cons}
+use mathlib.Core.List.{List, [], _∷_, List·Memᴰ, List·Memᴰ·head, List·Memᴰ·tail, List·Memᴰ·not-nil, List·Memᴰ·cases-cons}
 use mathlib.Core.Option.{none}
-use Prim.Native.Nat.{ℕ, zero, suc, _*_, _<_}
-use native.Mathlib.Nat.{zero-mul, suc-mul}
+use Prim.Native.Nat.{ℕ, _*_}
 use native.Mathlib.Decide.{ℕ-discrete}
-use native.Mathlib.Omega.{arith}
-use lib.ListN.{length, take}
-use lib.Seq.{take-add, take-all}
+use lib.ListN.{length}
 use Rattle.block.specs.Bytes.{Plain, part}
 use Rattle.block.proofs.Lists.{false-true}
+use Rattle.block.proofs.Parts.{parts-all}
 use Rattle.mode.specs.Sealing.{Triple}
 use Rattle.mode.specs.Scheme.{Place, local, tag, remote, on, wide, Sector}
 use Rattle.verdict.proofs.JudgeExact.{same-place}
@@ -23,22 +21,6 @@ use Rattle.history.proofs.Demand3.{mirror-sound}
 use Rattle.history.proofs.Refusals.{accepted-passed, accepted-images}
 use Rattle.history.proofs.Images.{Left, left, sector-images, leaves-refused}
 use Rattle.history.proofs.Sector.{on-store, on-store-other, storeAll}
-
--- ---- lists of parts
-
--- a list is known by its parts
-pub parts-take : (w n : ℕ) (x y : List ℕ) → ((j : ℕ) → j < n → part w j x ≡ part w j y) → take (n * w) x ≡ take (n * w) y
-unfolding part
-parts-take w zero x y h = ap (λ (k : ℕ). take k x) (zero-mul w) ∙ sym (ap (λ (k : ℕ). take k y) (zero-mul w))
-parts-take w (suc n) x y h =
-    ap (λ (k : ℕ). take k x) (suc-mul n w)
-    ∙ take-add (n * w) w x
-    ∙ ap₂ _++_ (parts-take w n x y (λ j l. h j (omega arith))) (h n (omega arith))
-    ∙ sym (take-add (n * w) w y)
-    ∙ ap (λ (k : ℕ). take k y) (sym (suc-mul n w))
-
-pub parts-all : (w n : ℕ) (x y : List ℕ) → length x ≡ n * w → length y ≡ n * w → ((j : ℕ) → j < n → part w j x ≡ part w j y) → x ≡ y
-parts-all w n x y p q h = sym (take-all (n * w) x (omega arith)) ∙ parts-take w n x y h ∙ take-all (n * w) y (omega arith)
 
 -- ---- places
 
