@@ -21,7 +21,7 @@ use Rattle.verdict.specs.declared.Judged.{Judged}
 use Rattle.verdict.specs.declared.Judged.the-variants as J
 use Rattle.verdict.specs.declared.Place as D
 use Rattle.verdict.specs.declared.Refusal.{Refusal}
-use Rattle.verdict.specs.declared.Refusal.the-variants.{KeyLength, SectorSize, OtherLength, UnknownSide, NoneFits, Lost, Clashing, VolumeShape, SectorNumber, StageOrder, ListLength}
+use Rattle.verdict.specs.declared.Refusal.the-variants.{KeyLength, SectorSize, OtherLength, UnknownSide, NoneFits, Lost, Clashing, VolumeShape, SectorNumber, StageOrder, ListLength, NoFrame}
 use Rattle.verdict.specs.Answers.{Rule, rule, firstOf, settleBy, refusalNumber, placeNamed, judgedNumber}
 use Rattle.verdict.specs.Judging.{key, triple, verdictNumber, schemeOf, judgedBy}
 use Rattle.verdict.specs.Verdict.{Verdict, whole, doubtful, lost, clashing, fits, fitsTwo, candidate, grade, judge}
@@ -58,6 +58,7 @@ six-lost VolumeShape e = absurd (omega arith)
 six-lost SectorNumber e = absurd (omega arith)
 six-lost StageOrder e = absurd (omega arith)
 six-lost ListLength e = absurd (omega arith)
+six-lost NoFrame e = absurd (omega arith)
 
 pub tells-whole : {j : Judged} → j ≡ J.Whole → (w : Verdict) → Tells j w → Kind w true false false false
 unfolding isWhole isDoubtful isClashing isLost

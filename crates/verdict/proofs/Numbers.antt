@@ -6,7 +6,7 @@ use native.Mathlib.Omega.{arith}
 use lib.Dec.{lit<}
 use Rattle.mode.specs.Scheme.{Place, local, tag, remote}
 use Rattle.verdict.specs.declared.Refusal.{Refusal}
-use Rattle.verdict.specs.declared.Refusal.the-variants.{KeyLength, SectorSize, OtherLength, UnknownSide, NoneFits, Lost, Clashing, VolumeShape, SectorNumber, StageOrder, ListLength}
+use Rattle.verdict.specs.declared.Refusal.the-variants.{KeyLength, SectorSize, OtherLength, UnknownSide, NoneFits, Lost, Clashing, VolumeShape, SectorNumber, StageOrder, ListLength, NoFrame}
 use Rattle.verdict.specs.Answers.{doubtNumber, refusalNumber}
 use Rattle.verdict.specs.Judging.{verdictOutcome, verdictNumber}
 use Rattle.verdict.specs.Verdict.{Verdict, whole, doubtful, lost, clashing}
@@ -23,6 +23,7 @@ refusal-range VolumeShape = (lit< tt, lit< tt)
 refusal-range SectorNumber = (lit< tt, lit< tt)
 refusal-range StageOrder = (lit< tt, lit< tt)
 refusal-range ListLength = (lit< tt, lit< tt)
+refusal-range NoFrame = (lit< tt, lit< tt)
 
 pub doubt-least : (p : Place) → 128 < doubtNumber p
 doubt-least local = lit< tt

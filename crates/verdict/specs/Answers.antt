@@ -9,7 +9,7 @@ use Rattle.mode.specs.Scheme as M
 use Rattle.verdict.specs.declared.Place.{Place}
 use Rattle.verdict.specs.declared.Place.the-variants.{Local, Tag, Remote}
 use Rattle.verdict.specs.declared.Refusal.{Refusal}
-use Rattle.verdict.specs.declared.Refusal.the-variants.{KeyLength, SectorSize, OtherLength, UnknownSide, NoneFits, Lost, Clashing, VolumeShape, SectorNumber, StageOrder, ListLength}
+use Rattle.verdict.specs.declared.Refusal.the-variants.{KeyLength, SectorSize, OtherLength, UnknownSide, NoneFits, Lost, Clashing, VolumeShape, SectorNumber, StageOrder, ListLength, NoFrame}
 use Rattle.verdict.specs.declared.Judged.{Judged}
 use Rattle.verdict.specs.declared.Judged.the-variants as J
 use Rattle.verdict.specs.declared.Done.{Done}
@@ -74,6 +74,7 @@ refusalNumber VolumeShape = 8
 refusalNumber SectorNumber = 9
 refusalNumber StageOrder = 10
 refusalNumber ListLength = 11
+refusalNumber NoFrame = 12
 
 -- the place that the code's enum names
 abbrev pub placeNamed : Place → M.Place

@@ -24,7 +24,7 @@ pub enum Place {
     Remote,
 }
 
-// Document 01's refusals, from 1 on. Those from 8 on are a volume's.
+// Document 01's refusals, from 1 on. Those from 8 on are a volume's, and the last is the program `frames`'s.
 pub enum Refusal {
     KeyLength,
     SectorSize,
@@ -37,6 +37,7 @@ pub enum Refusal {
     SectorNumber,
     StageOrder,
     ListLength,
+    NoFrame,
 }
 
 // What judging answers.
@@ -79,6 +80,7 @@ pub fn refusal_number(f: Refusal) -> u8
         Refusal::SectorNumber => 9,
         Refusal::StageOrder => 10,
         Refusal::ListLength => 11,
+        Refusal::NoFrame => 12,
     }
 }
 
