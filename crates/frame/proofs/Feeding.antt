@@ -10,21 +10,20 @@ use lib.Dec.{eqb, leb}
 use lib.ListN.{length, take, length-take}
 use lib.Seq.{take-all, length-take-le}
 use borrow.Author.Tests.{le-leb, eq-eqb, ne-eqb}
-use Rattle.verdict.specs.Answers.{settle}
 use Rattle.text.specs.Digits.{decode}
-use Rattle.frame.specs.Frame.{frameAnswer, lineAnswer, shown, printLine}
+use Rattle.frame.specs.Frame.{Answer, refused, unlessRefused, frameAnswer, lineAnswer, shown, printLine}
 use Rattle.frame.specs.Lines.{linesFrom, printLines, printInput, held, fed, finished, fedAll, concat, FeedsWhole}
 
 -- ---- a long line is refused whatever its bytes are
 
-refused : (a b : Bool) (o : Option ℕ) (z : ℕ × List ℕ) → b ≡ true → settle (cond a (some 12) (cond b (some 12) o)) z [] ≡ (12, [])
-refused true b o z e = refl
-refused false b o z e = ap {B = ℕ × List ℕ} (λ (t : Bool). settle (cond t (some 12) o) z []) e
+too-long : (a b : Bool) (o : Option ℕ) (z : Answer) → b ≡ true → unlessRefused (cond a (some 12) (cond b (some 12) o)) z ≡ refused 12
+too-long true b o z e = refl
+too-long false b o z e = ap (λ (t : Bool). unlessRefused (cond t (some 12) o) z) e
 
-pub long-line : (line : List ℕ) → 16499 ≤ length line → printLine line ≡ shown (12, [])
+pub long-line : (line : List ℕ) → 16499 ≤ length line → printLine line ≡ shown (refused 12)
 unfolding printLine lineAnswer
 long-line line h =
-    ap shown (refused (eqb (length line) 0) (leb 16499 (length line)) _ (frameAnswer (decode line)) (le-leb 16499 (length line) h))
+    ap shown (too-long (eqb (length line) 0) (leb 16499 (length line)) _ (frameAnswer (decode line)) (le-leb 16499 (length line) h))
 
 -- what is held of a line prints what the line does
 pub held-enough : (line : List ℕ) → printLine (held line) ≡ printLine line

@@ -14,10 +14,9 @@ use Rattle.block.proofs.Lists.{and-left, and-right}
 use Rattle.mode.specs.Scheme.{isSize}
 use Rattle.verdict.specs.Answers.{Rule, rule, firstOf}
 use Rattle.verdict.proofs.Rules.{first-none, first-some, none-left, none-right}
-use Rattle.sector.proofs.Public.{settle-some, settle-none}
-use Rattle.text.specs.Digits.{between, allDigits, decode}
-use Rattle.frame.specs.Frame.{kind, beside, together, half, called, kindRules, sectorRules, lengthRules, frameAnswer, lineAnswer, printed, shown, printLine}
-use Rattle.frame.specs.Inner.{refusalOf, Sectors}
+use Rattle.text.specs.Digits.{allDigits, decode}
+use Rattle.frame.specs.Frame.{kind, beside, together, half, called, kindRules, sectorRules, lengthRules, Answer, answered, unlessRefused, frameAnswer, lineAnswer, printed, shown, printLine}
+use Rattle.frame.specs.Inner.{Sectors}
 
 -- ---- a frame that passes
 
@@ -70,45 +69,38 @@ half-is f b e = ap (λ (k : ℕ). k / 2) (together-is f b e)
 
 -- ---- what is printed for a refusal
 
-refused-shown : (n : ℕ) → shown (n, []) ≡ printed n []
+shown-first : {o : Option ℕ} {n : ℕ} (a : Answer) → o ≡ some n → shown (unlessRefused o a) ≡ printed n []
 unfolding shown
-refused-shown n = go (between 1 12 n)
-  where
-    go : (b : Bool) → printed n (cond b [] []) ≡ printed n []
-    go true = refl
-    go false = refl
+shown-first a e = ap (λ (o : Option ℕ). shown (unlessRefused o a)) e
 
-pub nonzero : (n : ℕ) {o : Option ℕ} → o ≡ refusalOf n → (n ≡ 0 → ⊥) → o ≡ some n
-nonzero zero e h = absurd (h refl)
-nonzero (suc n) e h = e
+shown-none : {o : Option ℕ} (a : Answer) → o ≡ none → shown (unlessRefused o a) ≡ shown a
+shown-none a e = ap (λ (o : Option ℕ). shown (unlessRefused o a)) e
 
 module _ (f : List ℕ) where
-  pub frame-refused : (n : ℕ) → firstOf (kindRules f ++ sectorRules (together f)) ≡ refusalOf n → (n ≡ 0 → ⊥) → shown (frameAnswer f) ≡ printed n []
+  pub frame-refused : {n : ℕ} → firstOf (kindRules f ++ sectorRules (together f)) ≡ some n → shown (frameAnswer f) ≡ printed n []
   unfolding frameAnswer
-  frame-refused n e h = ap shown (settle-some (called f (replicate (half f) 0)) [] (nonzero n e h)) ∙ refused-shown n
+  frame-refused e = shown-first (answered (called f (replicate (half f) 0))) e
 
-  pub frame-passes : firstOf (kindRules f ++ sectorRules (together f)) ≡ none → shown (frameAnswer f) ≡ shown (called f (replicate (half f) 0))
+  pub frame-passes : firstOf (kindRules f ++ sectorRules (together f)) ≡ none → shown (frameAnswer f) ≡ shown (answered (called f (replicate (half f) 0)))
   unfolding frameAnswer
-  frame-passes e = ap shown (settle-none (called f (replicate (half f) 0)) [] e)
+  frame-passes e = shown-none (answered (called f (replicate (half f) 0))) e
 
 module _ (line : List ℕ) where
   abbrev digitRule : List Rule
   digitRule = rule 12 (not (allDigits line)) ∷ []
 
-  pub line-refused : (n : ℕ) → firstOf (lengthRules (length line)) ≡ refusalOf n → (n ≡ 0 → ⊥) → printLine line ≡ printed n []
+  pub line-refused : {n : ℕ} → firstOf (lengthRules (length line)) ≡ some n → printLine line ≡ printed n []
   unfolding printLine lineAnswer
-  line-refused n e h = ap shown (settle-some (frameAnswer (decode line)) [] (first-some digitRule (lengthRules (length line)) (nonzero n e h))) ∙ refused-shown n
+  line-refused e = shown-first (frameAnswer (decode line)) (first-some digitRule (lengthRules (length line)) e)
 
   module _ (e : firstOf (lengthRules (length line)) ≡ none) where
     pub digits-refused : allDigits line ≡ false → printLine line ≡ printed 12 []
     unfolding printLine lineAnswer
-    digits-refused d =
-        ap shown (settle-some (frameAnswer (decode line)) [] (first-none digitRule (lengthRules (length line)) e ∙ ap (λ b. firstOf (rule 12 (not b) ∷ [])) d))
-        ∙ refused-shown 12
+    digits-refused d = shown-first (frameAnswer (decode line)) (first-none digitRule (lengthRules (length line)) e ∙ ap (λ b. firstOf (rule 12 (not b) ∷ [])) d)
 
     pub digits-pass : allDigits line ≡ true → printLine line ≡ shown (frameAnswer (decode line))
     unfolding printLine lineAnswer
-    digits-pass d = ap shown (settle-none (frameAnswer (decode line)) [] (first-none digitRule (lengthRules (length line)) e ∙ ap (λ b. firstOf (rule 12 (not b) ∷ [])) d))
+    digits-pass d = shown-none (frameAnswer (decode line)) (first-none digitRule (lengthRules (length line)) e ∙ ap (λ b. firstOf (rule 12 (not b) ∷ [])) d)
 
 -- a line that is not refused for its length
 line-length : (n : ℕ) → firstOf (lengthRules n) ≡ none → (1 ≤ n) × (n ≤ 16498) × (n % 2 ≡ 0)

@@ -1,16 +1,17 @@
 -- One line of the program `frames` (document 01, "Without the volume"): what is printed for it. Assumes nothing: these are definitions.
-use mathlib.Core.Bool.{not, _&&_, _||_, cond}
+use mathlib.Core.Bool.{Bool, not, _&&_, _||_, cond}
 use mathlib.Core.List.{List, [], _∷_, _++_}
+use mathlib.Core.Option.{Option, none, some}
 use Prim.Native.Nat.{ℕ, _+_, _-_, _/_, _%_}
 use lib.Dec.{eqb, leb}
 use lib.ListN.{length, take, drop, getD, replicate}
 use Rattle.block.specs.Bytes.{fromBytes}
-use Rattle.mode.specs.Scheme.{isSize}
-use Rattle.verdict.specs.Answers.{Rule, rule, firstOf, settle}
+use Rattle.mode.specs.Scheme.{local, tag, remote, isSize}
+use Rattle.verdict.specs.Answers.{Rule, rule, firstOf, doubtNumber}
 use Rattle.verdict.specs.Judging.{triple}
 use Rattle.verdict.specs.Judging as C
 use Rattle.sector.specs.Calls.{judgeCall, combineCall}
-use Rattle.text.specs.Digits.{between, allDigits, decode}
+use Rattle.text.specs.Digits.{allDigits, decode}
 
 -- ---- bytes in hexadecimal
 
@@ -55,6 +56,26 @@ combined f out = let s : ℕ = length out in combineCall (field 1 s f) (field (1
 unfoldable pub called : List ℕ → List ℕ → ℕ × List ℕ
 called f out = cond (eqb (kind f) 1) (judged f out) (combined f out)
 
+-- ---- an answer
+
+-- a number and the plaintext, or only a refusal
+pub data Answer : Type 0 where
+  given : ℕ → List ℕ → Answer
+  refused : ℕ → Answer
+
+-- the numbers that come with the plaintext: 00 (whole or combined), and 81, 82, 83 (doubt at place 1, 2, 3)
+unfoldable pub withPlaintext : ℕ → Bool
+withPlaintext n = eqb n 0 || (eqb n (doubtNumber local) || (eqb n (doubtNumber tag) || eqb n (doubtNumber remote)))
+
+-- a call's answer, from its number and its output: any other number is a refusal
+unfoldable pub answered : ℕ × List ℕ → Answer
+answered (n, P) = cond (withPlaintext n) (given n P) (refused n)
+
+-- the first refusal, or else what is answered without one
+abbrev pub unlessRefused : Option ℕ → Answer → Answer
+unlessRefused none a = a
+unlessRefused (some n) a = refused n
+
 -- ---- a line
 
 -- the refusals of a line of n bytes, of a frame's kind, and of two sectors with n bytes together
@@ -71,20 +92,20 @@ abbrev pub sectorRules : ℕ → List Rule
 sectorRules n = rule 3 (not (eqb (n % 2) 0)) ∷ rule 2 (not (isSize (n / 2))) ∷ []
 
 -- a frame's answer: the first refusal, or the call's with an output of zeros
-unfoldable pub frameAnswer : List ℕ → ℕ × List ℕ
-frameAnswer f = settle (firstOf (kindRules f ++ sectorRules (together f))) (called f (replicate (half f) 0)) []
+unfoldable pub frameAnswer : List ℕ → Answer
+frameAnswer f = unlessRefused (firstOf (kindRules f ++ sectorRules (together f))) (answered (called f (replicate (half f) 0)))
 
 -- a line's: the first refusal, or its frame's
-unfoldable pub lineAnswer : List ℕ → ℕ × List ℕ
-lineAnswer line = settle (firstOf (lengthRules (length line) ++ (rule 12 (not (allDigits line)) ∷ []))) (frameAnswer (decode line)) []
+unfoldable pub lineAnswer : List ℕ → Answer
+lineAnswer line = unlessRefused (firstOf (lengthRules (length line) ++ (rule 12 (not (allDigits line)) ∷ []))) (frameAnswer (decode line))
 
 -- a number and a plaintext in digits, and a line feed
 unfoldable pub printed : ℕ → List ℕ → List ℕ
 printed n P = encode (n ∷ P) ++ (10 ∷ [])
 
--- behind the number stands the plaintext, unless the number is a refusal's
-unfoldable pub shown : ℕ × List ℕ → List ℕ
-shown (n, P) = printed n (cond (between 1 12 n) [] P)
+unfoldable pub shown : Answer → List ℕ
+shown (given n P) = printed n P
+shown (refused n) = printed n []
 
 unfoldable pub printLine : List ℕ → List ℕ
 printLine line = shown (lineAnswer line)

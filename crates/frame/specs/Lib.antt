@@ -1,3 +1,4 @@
 pub mod Frame
 pub mod Inner
 pub mod Lines
+pub mod Turn

@@ -1,15 +1,18 @@
-// One line of the program `frames`, and an input fed one buffer at a time.
+// The program `frames` between its reads and its writes: what is printed for a line, and what a turn does with what a read gave.
+use verdict::Done;
+use verdict::Judged;
+use verdict::Refusal;
 ghost use mathlib.Core.Path.{_≡_};
-ghost use mathlib.Core.List.{_++_};
+ghost use mathlib.Core.List.{[], _++_};
 ghost use mathlib.Core.Option.{none};
-ghost use Prim.Native.Nat.{_+_, _*_, _≤_, _<_, min};
+ghost use Prim.Native.Nat.{_+_, _*_, _-_, _≤_, _<_, min};
 ghost use lib.ListN.{length, take, drop, replicate};
-ghost use Rattle.verdict.specs.Answers.{firstOf};
-ghost use Rattle.text.specs.Digits.{between};
-ghost use Rattle.frame.specs.Frame.{together, judged, combined, called, lengthRules, kindRules, sectorRules, frameAnswer, printed, shown, printLine};
+ghost use Rattle.verdict.specs.Answers.{firstOf, refusalNumber, judgedNumber, doneOption};
+ghost use Rattle.frame.specs.Frame.{together, judged, combined, called, lengthRules, kindRules, sectorRules, answered, frameAnswer, printed, shown, printLine};
 ghost use Rattle.frame.specs.Frame as F;
 ghost use Rattle.frame.specs.Lines.{held, fed, finished};
-ghost use Rattle.frame.specs.Inner.{refusalOf, Prints, Sectors};
+ghost use Rattle.frame.specs.Turn.{turnCall};
+ghost use Rattle.frame.specs.Inner.{Prints, Sectors, plaintextLength, Feeds, givenOf};
 
 // ---- hexadecimal
 
@@ -47,46 +50,61 @@ fn show(number: u8, plain: &[u8], out: &mut [u8]) -> usize
     end + 1
 }
 
-// ---- refusals: each check gives the number of the first, or 0
-
-// A line of n bytes.
-fn check_length(n: usize) -> u8
-    ensures { λ r. ⌜ firstOf (lengthRules n) ≡ refusalOf r ⌝ }
+// Prints only a refusal.
+fn refuse(f: Refusal, out: &mut [u8]) -> usize
+    requires { ⌜ 3 ≤ length (now out) ⌝ }
+    ensures { λ r. ⌜ Prints (printed (refusalNumber f) []) (now (out .entry)) (now (out .exit)) r 3 ⌝ }
 {
-    if n == 0 {
-        return 12;
-    }
-    if 16498 < n {
-        return 12;
-    }
-    if n % 2 == 0 { 0 } else { 12 }
+    show(verdict::refusal_number(f), b"", out)
 }
 
-fn check_kind(frame: &[u8]) -> u8
+// ---- refusals
+
+// A line of n bytes.
+fn check_length(n: usize) -> Done
+    ensures { λ r. ⌜ firstOf (lengthRules n) ≡ doneOption r ⌝ }
+{
+    if n == 0 {
+        return Done::Refused(Refusal::NoFrame);
+    }
+    if 16498 < n {
+        return Done::Refused(Refusal::NoFrame);
+    }
+    if n % 2 == 1 {
+        return Done::Refused(Refusal::NoFrame);
+    }
+    Done::Done
+}
+
+fn check_kind(frame: &[u8]) -> Done
     requires { ⌜ 1 ≤ length (now frame) ⌝ }
-    ensures { λ r. ⌜ firstOf (kindRules (now (frame .entry))) ≡ refusalOf r ⌝ }
+    ensures { λ r. ⌜ firstOf (kindRules (now (frame .entry))) ≡ doneOption r ⌝ }
 {
     let kind = frame[0];
     if kind == 1 {
         if frame.len() < 57 {
-            return 12;
+            return Done::Refused(Refusal::NoFrame);
         }
-        return 0;
+        return Done::Done;
     }
-    if kind == 2 { 0 } else { 12 }
+    if kind == 2 {
+        Done::Done
+    } else {
+        Done::Refused(Refusal::NoFrame)
+    }
 }
 
 // Two sectors with n bytes together.
-fn check_sectors(n: usize) -> u8
-    ensures { λ r. ⌜ firstOf (sectorRules n) ≡ refusalOf r ⌝ }
+fn check_sectors(n: usize) -> Done
+    ensures { λ r. ⌜ firstOf (sectorRules n) ≡ doneOption r ⌝ }
 {
     if n % 2 == 0 {
         if verdict::is_size(n / 2) {
-            return 0;
+            return Done::Done;
         }
-        return 2;
+        return Done::Refused(Refusal::SectorSize);
     }
-    3
+    Done::Refused(Refusal::OtherLength)
 }
 
 // How many bytes stand beside the two sectors.
@@ -97,58 +115,53 @@ fn beside(frame: &[u8]) -> usize
     if frame[0] == 1 { 57 } else { 1 }
 }
 
-fn check_frame(frame: &[u8]) -> u8
+fn check_frame(frame: &[u8]) -> Done
     requires { ⌜ 1 ≤ length (now frame) ⌝ }
-    ensures { λ r. ⌜ firstOf (kindRules (now (frame .entry)) ++ sectorRules (together (now (frame .entry)))) ≡ refusalOf r ⌝ }
+    ensures { λ r. ⌜ firstOf (kindRules (now (frame .entry)) ++ sectorRules (together (now (frame .entry)))) ≡ doneOption r ⌝ }
 {
-    let refused = check_kind(frame);
-    if refused == 0 {
-        return check_sectors(frame.len() - beside(frame));
+    let checked = check_kind(frame);
+    match checked {
+        Done::Done => check_sectors(frame.len() - beside(frame)),
+        Done::Refused(f) => Done::Refused(f),
     }
-    refused
 }
 
 // ---- a frame
 
-fn is_refusal(n: u8) -> bool
-    ensures { λ r. ⌜ r ≡ between 1 12 n ⌝ }
-{
-    if n == 0 {
-        return false;
-    }
-    n <= 12
-}
-
 // Judges a frame 01: its parts are lent on, and the plaintext goes to `plain`.
-fn judge_frame(frame: &[u8], plain: &mut [u8]) -> u8
+fn judge_frame(frame: &[u8], plain: &mut [u8]) -> Judged
     requires { ⌜ length (now frame) ≡ 57 + 2 * length (now plain) ⌝ }
-    ensures { λ r. ⌜ judged (now (frame .entry)) (now (plain .entry)) ≡ (r, now (plain .exit)) ⌝ }
+    ensures { λ r. ⌜ judged (now (frame .entry)) (now (plain .entry)) ≡ (judgedNumber r, now (plain .exit)) ⌝ }
 {
     let s = plain.len();
     let tag = 41 + s;
     let remote = 57 + s;
-    verdict::judged_number(sector::judge(
+    sector::judge(
         &frame[1..33],
         block::load_word(frame, 33),
         &frame[41..tag],
         &frame[tag..remote],
         &frame[remote..],
         plain,
-    ))
+    )
 }
 
-// Combines the sectors of a frame 02.
-fn combine_frame(frame: &[u8], plain: &mut [u8]) -> u8
+// Combines the sectors of a frame 02. Combined has the number of whole.
+fn combine_frame(frame: &[u8], plain: &mut [u8]) -> Judged
     requires { ⌜ length (now frame) ≡ 1 + 2 * length (now plain) ⌝ }
-    ensures { λ r. ⌜ combined (now (frame .entry)) (now (plain .entry)) ≡ (r, now (plain .exit)) ⌝ }
+    ensures { λ r. ⌜ combined (now (frame .entry)) (now (plain .entry)) ≡ (judgedNumber r, now (plain .exit)) ⌝ }
 {
     let remote = 1 + plain.len();
-    verdict::done_number(sector::combine(&frame[1..remote], &frame[remote..], plain))
+    let done = sector::combine(&frame[1..remote], &frame[remote..], plain);
+    match done {
+        Done::Done => Judged::Whole,
+        Done::Refused(f) => Judged::Refused(f),
+    }
 }
 
-fn call_frame(frame: &[u8], plain: &mut [u8]) -> u8
+fn call_frame(frame: &[u8], plain: &mut [u8]) -> Judged
     requires { ⌜ Sectors (length (now plain)) (now frame) ⌝ }
-    ensures { λ r. ⌜ called (now (frame .entry)) (now (plain .entry)) ≡ (r, now (plain .exit)) ⌝ }
+    ensures { λ r. ⌜ called (now (frame .entry)) (now (plain .entry)) ≡ (judgedNumber r, now (plain .exit)) ⌝ }
 {
     if frame[0] == 1 {
         return judge_frame(frame, plain);
@@ -156,22 +169,31 @@ fn call_frame(frame: &[u8], plain: &mut [u8]) -> u8
     combine_frame(frame, plain)
 }
 
+// How many bytes of plaintext come with the answer about a sector of s bytes.
+fn plaintext_length(answer: Judged, s: usize) -> usize
+    ensures { λ r. ⌜ (r ≡ plaintextLength answer s) × (r ≤ s) ⌝ }
+{
+    match answer {
+        Judged::Whole => s,
+        Judged::Doubtful(_) => s,
+        Judged::Refused(_) => 0,
+    }
+}
+
 // Answers a frame with sectors as long as `plain`, and prints the answer. A refusal comes without a plaintext.
 fn print_answer(frame: &[u8], plain: &mut [u8], out: &mut [u8]) -> usize
     requires { ⌜ Sectors (length (now plain)) (now frame) × (2 * length (now plain) + 3 ≤ length (now out)) ⌝ }
-    ensures { λ r. ⌜ Prints (shown (called (now (frame .entry)) (now (plain .entry)))) (now (out .entry)) (now (out .exit)) r (2 * length (now (plain .entry)) + 3) ⌝ }
+    ensures { λ r. ⌜ Prints (shown (answered (called (now (frame .entry)) (now (plain .entry))))) (now (out .entry)) (now (out .exit)) r (2 * length (now (plain .entry)) + 3) ⌝ }
 {
-    let number = call_frame(frame, plain);
-    if is_refusal(number) {
-        return show(number, &plain[..0], out);
-    }
-    show(number, &plain[..], out)
+    let answer = call_frame(frame, plain);
+    let n = plaintext_length(answer, plain.len());
+    show(verdict::judged_number(answer), &plain[..n], out)
 }
 
 // Makes the room for the plaintext.
 fn print_sectors(frame: &[u8], s: usize, out: &mut [u8]) -> usize
     requires { ⌜ Sectors s (now frame) × (s ≤ 4096) × (2 * s + 3 ≤ length (now out)) ⌝ }
-    ensures { λ r. ⌜ Prints (shown (called (now (frame .entry)) (replicate s 0))) (now (out .entry)) (now (out .exit)) r (2 * s + 3) ⌝ }
+    ensures { λ r. ⌜ Prints (shown (answered (called (now (frame .entry)) (replicate s 0)))) (now (out .entry)) (now (out .exit)) r (2 * s + 3) ⌝ }
 {
     let mut plain = [0u8; 4096];
     print_answer(frame, &mut plain[..s], out)
@@ -183,12 +205,14 @@ fn print_frame(frame: &[u8], out: &mut [u8]) -> usize
     requires { ⌜ (1 ≤ length (now frame)) × (length (now frame) + 2 ≤ length (now out)) ⌝ }
     ensures { λ r. ⌜ Prints (shown (frameAnswer (now (frame .entry)))) (now (out .entry)) (now (out .exit)) r (length (now (frame .entry)) + 2) ⌝ }
 {
-    let refused = check_frame(frame);
-    if refused == 0 {
-        let s = (frame.len() - beside(frame)) / 2;
-        return print_sectors(frame, s, out);
+    let checked = check_frame(frame);
+    match checked {
+        Done::Done => {
+            let s = (frame.len() - beside(frame)) / 2;
+            print_sectors(frame, s, out)
+        }
+        Done::Refused(f) => refuse(f, out),
     }
-    show(refused, &frame[..0], out)
 }
 
 // A line whose length is right is decoded into `frame`.
@@ -199,7 +223,7 @@ fn print_decoded(line: &[u8], frame: &mut [u8], out: &mut [u8]) -> usize
     if text::decode(line, frame) {
         return print_frame(&frame[..], out);
     }
-    show(12, &line[..0], out)
+    refuse(Refusal::NoFrame, out)
 }
 
 // Prints what the program prints for a line, whatever bytes it has, and gives how many bytes that is.
@@ -207,21 +231,23 @@ fn print_line(line: &[u8], out: &mut [u8]) -> usize
     requires { ⌜ length (now line) + 3 ≤ length (now out) ⌝ }
     ensures { λ r. ⌜ Prints (printLine (now (line .entry))) (now (out .entry)) (now (out .exit)) r (length (now (line .entry)) + 3) ⌝ }
 {
-    let refused = check_length(line.len());
-    if refused == 0 {
-        let n = line.len() / 2;
-        let mut frame = [0u8; 8249];
-        return print_decoded(line, &mut frame[..n], out);
+    let checked = check_length(line.len());
+    match checked {
+        Done::Done => {
+            let n = line.len() / 2;
+            let mut frame = [0u8; 8249];
+            print_decoded(line, &mut frame[..n], out)
+        }
+        Done::Refused(f) => refuse(f, out),
     }
-    show(refused, &line[..0], out)
 }
 
 // ---- an input fed one buffer at a time
 
 // How many bytes of a line that has not ended are held, and how many there are to print.
-pub struct Fed {
-    pub used: usize,
-    pub printed: usize,
+struct Fed {
+    used: usize,
+    printed: usize,
 }
 
 fn least(a: usize, b: usize) -> usize
@@ -272,30 +298,44 @@ fn feed_buffer(buffer: &[u8], line: &mut [u8], used: usize, out: &mut [u8]) -> F
     }
 }
 
-// Feeds the first n bytes of a buffer.
+// Puts zeros behind the first n bytes of the store for a line.
+fn clear(line: &mut [u8], n: usize)
+    requires { ⌜ n ≤ length (now line) ⌝ }
+    ensures { λ _. ⌜ now (line .exit) ≡ take n (now (line .entry)) ++ replicate (length (now (line .entry)) - n) 0 ⌝ }
+{
+    let mut i = n;
+    while i < line.len() {
+        line[i] = 0;
+        i += 1;
+    }
+}
+
+// Feeds the first n bytes of a buffer, and clears the store behind what is held.
 fn feed_front(buffer: &[u8], n: usize, line: &mut [u8], used: usize, out: &mut [u8]) -> Fed
     requires { ⌜ (n ≤ length (now buffer)) × (length (now line) ≡ 16499) × (used ≤ 16499) × (used + 3 * n ≤ length (now out)) ⌝ }
-    ensures { λ r. ⌜ (take (r .used) (now (line .exit)) ≡ fed (take used (now (line .entry))) (take n (now (buffer .entry))) .rest) × Prints (fed (take used (now (line .entry))) (take n (now (buffer .entry))) .printed) (now (out .entry)) (now (out .exit)) (r .printed) (length (now (out .entry))) × (r .used ≤ 16499) ⌝ }
+    ensures { λ r. ⌜ Feeds (fed (take used (now (line .entry))) (take n (now (buffer .entry)))) (r .used) (now (line .exit)) (r .printed) (now (out .entry)) (now (out .exit)) (length (now (out .entry))) ⌝ }
 {
-    feed_buffer(&buffer[..n], line, used, out)
+    let fed = feed_buffer(&buffer[..n], line, used, out);
+    clear(line, fed.used);
+    fed
 }
 
 // Feeds the first n bytes of a buffer, or all where n is more. The first `used` bytes of `line`, or all, are those of a line that has not
 // ended. What is to be printed comes to the front of `out`: at most three bytes for each byte fed, and one for each held before.
-pub fn feed(
+fn feed(
     buffer: &[u8; 65536],
     n: usize,
     line: &mut [u8; 16499],
     used: usize,
     out: &mut [u8; 213107],
 ) -> Fed
-    ensures { λ r. ⌜ (take (r .used) (now (line .exit)) ≡ fed (take used (now (line .entry))) (take n (now (buffer .entry))) .rest) × Prints (fed (take used (now (line .entry))) (take n (now (buffer .entry))) .printed) (now (out .entry)) (now (out .exit)) (r .printed) 213107 × (r .used ≤ 16499) ⌝ }
+    ensures { λ r. ⌜ Feeds (fed (take used (now (line .entry))) (take n (now (buffer .entry)))) (r .used) (now (line .exit)) (r .printed) (now (out .entry)) (now (out .exit)) 213107 ⌝ }
 {
     feed_front(buffer, least(n, 65536), line, least(used, 16499), out)
 }
 
 // Prints the line that the end of the input ends, if it is not empty: the first `used` bytes of `line`, or all.
-pub fn finish(line: &[u8; 16499], used: usize, out: &mut [u8; 213107]) -> usize
+fn finish(line: &[u8; 16499], used: usize, out: &mut [u8; 213107]) -> usize
     ensures { λ r. ⌜ Prints (finished (take used (now (line .entry)))) (now (out .entry)) (now (out .exit)) r 16502 ⌝ }
 {
     let size = least(used, 16499);
@@ -303,4 +343,77 @@ pub fn finish(line: &[u8; 16499], used: usize, out: &mut [u8; 213107]) -> usize
         return 0;
     }
     print_held(line, size, out, 0)
+}
+
+// ---- a turn of the program
+
+// What a read gave: no bytes are the end of the input.
+enum Given {
+    Failed,
+    Bytes(usize),
+}
+
+// What the program does after a turn.
+pub enum Next {
+    ReadOn,
+    Ended,
+    Failed,
+}
+
+// What a turn leaves: how many bytes of a line that has not ended are held, how many there are to print, and what comes next.
+pub struct Outcome {
+    pub used: usize,
+    pub printed: usize,
+    pub next: Next,
+}
+
+// From the number that a read answered.
+fn given_by(got: isize) -> Given
+    ensures { λ r. ⌜ r ≡ givenOf got ⌝ }
+{
+    if got < 0 {
+        return Given::Failed;
+    }
+    Given::Bytes(got as usize)
+}
+
+// One turn: `got` is what a read into `buffer` answered, and the first `used` bytes of `line` are held. What is to be printed comes to the
+// front of `out`. A read that fails is no end of the input: what is held of a line then stays without an answer.
+pub fn turn(
+    got: isize,
+    buffer: &[u8; 65536],
+    line: &mut [u8; 16499],
+    used: usize,
+    out: &mut [u8; 213107],
+) -> Outcome
+    ensures { λ r. ⌜ (turnCall got (now (buffer .entry)) (now (line .entry)) used (now (out .entry)) ≡ (r, now (line .exit), now (out .exit))) × (r .printed ≤ 213107) ⌝ }
+{
+    let read = given_by(got);
+    match read {
+        Given::Failed => {
+            clear(line, 0);
+            Outcome {
+                used: 0,
+                printed: 0,
+                next: Next::Failed,
+            }
+        }
+        Given::Bytes(n) => {
+            if n == 0 {
+                let printed = finish(line, used, out);
+                clear(line, 0);
+                return Outcome {
+                    used: 0,
+                    printed,
+                    next: Next::Ended,
+                };
+            }
+            let fed = feed(buffer, n, line, used, out);
+            Outcome {
+                used: fed.used,
+                printed: fed.printed,
+                next: Next::ReadOn,
+            }
+        }
+    }
 }

@@ -1,14 +1,27 @@
 // Answers frames: reads standard input a buffer at a time and prints one line for each of its lines. Memory is fixed, whatever the input is.
+// What a turn prints and does next is `frame::turn`; here is only the reading and the writing.
+use frame::Next;
 use libc::STDERR_FILENO;
 use libc::STDIN_FILENO;
 use libc::STDOUT_FILENO;
+ghost use mathlib.Core.Path.{_≡_};
+ghost use mathlib.Core.Bool.{true};
 ghost use Prim.Native.Nat.{_≤_};
 ghost use lib.ListN.{length};
 
-// What a turn leaves: how many bytes of a line that has not ended are held, and whether there may be more input.
+// Nothing says that an input ends, and a proved loop has to. No run comes to this many turns.
+const MOST_TURNS: u64 = u64::MAX;
+
+// What a turn leaves: how many bytes of a line that has not ended are held, and whether the program reads on.
 struct State {
     used: usize,
     more: bool,
+}
+
+// How the turns ended: whether the program would read on, and how many there were.
+struct Stop {
+    more: bool,
+    turns: u64,
 }
 
 // Room for as much of a line as is ever held.
@@ -32,64 +45,59 @@ fn print(text: &[u8], n: usize) -> bool
     false
 }
 
-// The end of the input ends the line that is held.
-fn end(line: &[u8; 16499], used: usize, out: &mut [u8; 213107]) {
-    let n = frame::finish(line, used, out);
-    print(out, n);
-}
-
-// Feeds the first n bytes of the buffer, as many as a read gave, and prints what is due.
-fn feed(
-    buffer: &[u8; 65536],
-    n: usize,
-    line: &mut [u8; 16499],
-    used: usize,
-    out: &mut [u8; 213107],
-) -> State {
-    let fed = frame::feed(buffer, n, line, used, out);
-    let more = print(out, fed.printed);
-    State {
-        used: fed.used,
-        more,
-    }
-}
-
-// One read. A read that fails is no end of the input: what is held of a line then stays without an answer.
-fn turn(
+// One read, the turn that it gives, and one write.
+fn step(
     buffer: &mut [u8; 65536],
     line: &mut [u8; 16499],
     used: usize,
     out: &mut [u8; 213107],
 ) -> State {
     let got = libc::read(STDIN_FILENO, buffer);
-    if got < 0 {
-        io::write_all(STDERR_FILENO, b"frames: cannot read\n");
-        return State { used, more: false };
+    let turn = frame::turn(got, buffer, line, used, out);
+    let written = print(out, turn.printed);
+    let held = turn.used;
+    let next = turn.next;
+    match next {
+        Next::ReadOn => State {
+            used: held,
+            more: written,
+        },
+        Next::Ended => State {
+            used: held,
+            more: false,
+        },
+        Next::Failed => {
+            io::write_all(STDERR_FILENO, b"frames: cannot read\n");
+            State {
+                used: held,
+                more: false,
+            }
+        }
     }
-    if got == 0 {
-        end(line, used, out);
-        return State { used, more: false };
-    }
-    let n = io::count(got, buffer);
-    feed(buffer, n, line, used, out)
 }
 
-// Nothing says that an input ends, and a proved loop has to: the turns count down from a number that no run uses up.
-fn run(buffer: &mut [u8; 65536], line: &mut [u8; 16499], out: &mut [u8; 213107]) {
+// Takes turns as long as the program reads on. Only 2^64 − 1 turns stop one that would.
+fn run(buffer: &mut [u8; 65536], line: &mut [u8; 16499], out: &mut [u8; 213107]) -> Stop
+    ensures { λ r. ⌜ (r .more ≡ true → 18446744073709551615 ≤ r .turns) ⌝ }
+{
     let mut used: usize = 0;
     let mut more = true;
-    let mut turns = u64::MAX;
-    while more && turns > 0 {
-        let t = turn(buffer, line, used, out);
+    let mut turns: u64 = 0;
+    while more && turns < MOST_TURNS {
+        let t = step(buffer, line, used, out);
         used = t.used;
         more = t.more;
-        turns -= 1;
+        turns += 1;
     }
+    Stop { more, turns }
 }
 
 fn main() {
     let mut buffer = io::large_buffer();
     let mut line = line_room();
     let mut out = out_room();
-    run(&mut buffer, &mut line, &mut out);
+    let stop = run(&mut buffer, &mut line, &mut out);
+    if stop.more {
+        io::write_all(STDERR_FILENO, b"frames: stopped after too many reads\n");
+    }
 }

@@ -1,3 +1,5 @@
+use mathlib.Core.Path.{ap}
+use Rattle.verdict.specs.Answers.{doneNumber}
 use Rattle.frame.proofs.Frames.{combined-is}
 use borrow.Author.Needs.{needs}
 use Rattle.frame.proofs.combine_frame.Statement.{statement}
@@ -27,14 +29,27 @@ part-combine-end-2 c = search needs
 combine-requires : tie.Need-combine-requires
 combine-requires c κs = search needs
 
-done-number-requires : tie.Need-done-number-requires
-done-number-requires c κs = search needs
+enum-told : tie.Need-enum-told
+enum-told c = search needs
+
+enum-known-done : tie.Need-enum-known-done
+enum-known-done c = search needs
 
 same-length : tie.Need-same-length
 same-length c = search needs
 
 returns : tie.Need-returns
-returns c = combined-is (c .before .before .before .before .before .before .before .before .before .args .frame .now) (c .before .before .before .before .before .before .before .before .before .args .plain .now) (c .before .before .before .before .before .before .before .before .before .pre) (c .before .before .before .combine .ensures) (c .done-number .ensures)
+returns c =
+    let a = c .before .before .before .before .before .before .before .before .before .before .args in
+    combined-is (a .frame .now) (a .plain .now) (c .before .before .before .before .before .before .before .before .before .before .pre) (c .before .before .before .before .combine .ensures) (ap doneNumber (c .enum-told .given .1))
+
+same-length-2 : tie.Need-same-length-2
+same-length-2 c = search needs
+
+returns-2 : tie.Need-returns-2
+returns-2 c =
+    let a = c .before .before .before .before .before .before .before .before .before .before .before .args in
+    combined-is (a .frame .now) (a .plain .now) (c .before .before .before .before .before .before .before .before .before .before .before .pre) (c .before .before .before .before .before .combine .ensures) (ap doneNumber (c .before .done .given .1))
 
 pub combine-frame-spec : {M : Type 1} → statement M
 combine-frame-spec =
@@ -48,6 +63,9 @@ combine-frame-spec =
     part-combine-start-2
     part-combine-end-2
     combine-requires
-    done-number-requires
+    enum-told
+    enum-known-done
     same-length
-    returns)
+    returns
+    same-length-2
+    returns-2)

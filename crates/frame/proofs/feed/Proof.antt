@@ -1,10 +1,9 @@
 -- `feed` meets its contract: no more than there is of the buffer is fed, and no more than there is of the line is held. Assumes nothing.
-use mathlib.Core.Path.{_≡_, sym, ap, ap₂, subst}
+use mathlib.Core.Path.{ap₂}
 use native.Mathlib.Omega.{arith}
-use lib.ListN.{take}
-use Rattle.frame.specs.Lines.{Fed, fed}
-use Rattle.frame.proofs.Frames.{reprint}
+use Rattle.frame.specs.Lines.{fed}
 use Rattle.frame.proofs.Stretches.{take-least}
+use Rattle.frame.proofs.Turns.{refeed}
 use borrow.Author.Needs.{needs}
 use Rattle.frame.proofs.feed.Statement.{statement}
 use Rattle.frame.proofs.feed.Tie as tie
@@ -26,11 +25,7 @@ returns c =
     let u = c .before .before .least2 in
     let l = take-least (a .line .now) (a .used) 16499 (u .result) (omega arith) (u .ensures) in
     let b = take-least (a .buffer .now) (a .n) 65536 (k .result) (omega arith) (k .ensures) in
-    let e = ap₂ fed l b in (
-      subst (λ (f : Fed). take (r .result .used) (r .last .1 .1 .0) ≡ f .rest) e (r .ensures .0),
-      reprint (a .out .now) _ (r .result .printed) 213107 (ap (λ (f : Fed). f .printed) (sym e)) (omega arith) (r .ensures .1),
-      r .ensures .2,
-    )
+    refeed (r .result .used) (r .result .printed) _ (a .out .now) _ 213107 (ap₂ fed l b) (omega arith) (r .ensures)
 
 pub feed-spec : {M : Type 1} → statement M
 feed-spec = tie.close (tie.spec least-requires least-requires-2 feed-front-requires returns)

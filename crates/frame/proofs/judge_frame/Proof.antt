@@ -51,14 +51,14 @@ part-judge-end-4 c = search needs
 judge-requires : tie.Need-judge-requires
 judge-requires c κs = search needs
 
-judged-number-requires : tie.Need-judged-number-requires
-judged-number-requires c κs = search needs
-
 same-length : tie.Need-same-length
 same-length c = search needs
 
 returns : tie.Need-returns
-returns c = judged-is (c .before .before .before .before .before .before .before .before .before .before .before .before .args .frame .now) (c .before .before .before .before .before .before .before .before .before .before .before .before .args .plain .now) (c .before .before .before .before .before .before .before .before .load-word .result) (c .before .before .before .before .before .before .before .before .before .before .before .before .pre) (c .before .before .before .before .before .before .before .before .load-word .ensures) (c .before .before .before .judge .ensures) (c .judged-number .ensures)
+returns c =
+    let a = c .before .before .before .before .before .before .before .before .before .before .before .args in
+    let address = c .before .before .before .before .before .before .before .load-word in
+    judged-is (a .frame .now) (a .plain .now) (address .result) (c .before .before .before .before .before .before .before .before .before .before .before .pre) (address .ensures) (c .before .before .judge .ensures)
 
 pub judge-frame-spec : {M : Type 1} → statement M
 judge-frame-spec =
@@ -80,6 +80,5 @@ judge-frame-spec =
     part-judge-start-4
     part-judge-end-4
     judge-requires
-    judged-number-requires
     same-length
     returns)

@@ -35,11 +35,8 @@ returns c =
     ∙ ap (λ (f : List ℕ). shown (frameAnswer f)) (sym (d .ensures .1 ∙ ap (λ b. cond b (decode (a .line .now)) (a .frame .now)) yes)))
     (omega arith) (c .before .before .print-frame .ensures)
 
-slice-aggregate-show : tie.Need-slice-aggregate-show
-slice-aggregate-show c = search needs
-
-show-requires : tie.Need-show-requires
-show-requires c κs = search needs
+refuse-requires : tie.Need-refuse-requires
+refuse-requires c κs = search needs
 
 same-length-3 : tie.Need-same-length-3
 same-length-3 c = search needs
@@ -49,12 +46,13 @@ same-length-4 c = search needs
 
 returns-2 : tie.Need-returns-2
 returns-2 c =
-    let a = c .before .before .before .before .before .before .before .before .before .before .before .before .before .args in
-    let h = c .before .before .before .before .before .before .before .before .before .before .before .before .before .pre in
-    let d = c .before .before .before .before .before .before .before .before .decode in
-    reprint (a .out .now) (c .before .before .show .last .1 .1 .0) (c .before .before .show .result) _
-    (digits-refused (a .line .now) (h .0) (by-digits (a .line .now) (a .frame .now) (h .1) ∙ sym (d .ensures .0) ∙ c .before .before .before .before .before .if1 .left))
-    (omega arith) (c .before .before .show .ensures)
+    let a = c .before .before .before .before .before .before .before .before .before .before .before .before .args in
+    let h = c .before .before .before .before .before .before .before .before .before .before .before .before .pre in
+    let d = c .before .before .before .before .before .before .before .decode in
+    let r = c .before .before .refuse in
+    reprint (a .out .now) _ (r .result) _
+    (digits-refused (a .line .now) (h .0) (by-digits (a .line .now) (a .frame .now) (h .1) ∙ sym (d .ensures .0) ∙ c .before .before .before .before .if1 .left))
+    (omega arith) (r .ensures)
 
 pub print-decoded-spec : {M : Type 1} → statement M
 print-decoded-spec =
@@ -65,8 +63,7 @@ print-decoded-spec =
     same-length
     same-length-2
     returns
-    slice-aggregate-show
-    show-requires
+    refuse-requires
     same-length-3
     same-length-4
     returns-2)

@@ -1,7 +1,7 @@
 use mathlib.Core.Path.{ap, _∙_}
 use native.Mathlib.Omega.{arith}
 use lib.ListN.{length}
-use Rattle.frame.specs.Inner.{refusalOf}
+use Rattle.verdict.specs.Answers.{doneOption}
 use Rattle.frame.proofs.Frames.{reprint}
 use Rattle.frame.proofs.Refusals.{line-refused, half-within, frame-long, frame-room}
 use borrow.Author.Needs.{needs}
@@ -11,14 +11,25 @@ use Rattle.frame.proofs.print_line.Tie as tie
 check-length-requires : tie.Need-check-length-requires
 check-length-requires c κs = search needs
 
+enum-told : tie.Need-enum-told
+enum-told c = search needs
+
 array-borrow-prefix-frame : tie.Need-array-borrow-prefix-frame
-array-borrow-prefix-frame c = half-within (c .before .before .before .before .args .line .now) (c .before .check-length .ensures ∙ ap refusalOf (c .if1 .taken))
+array-borrow-prefix-frame c = half-within (c .before .before .before .before .before .args .line .now) (c .before .before .check-length .ensures ∙ ap doneOption (c .enum-told .given .1))
 
 slice-aggregate-print-decoded : tie.Need-slice-aggregate-print-decoded
-slice-aggregate-print-decoded c = frame-long (c .before .before .before .before .before .args .line .now) (c .before .before .check-length .ensures ∙ ap refusalOf (c .before .if1 .taken))
+slice-aggregate-print-decoded c = frame-long (c .before .before .before .before .before .before .args .line .now) (c .before .before .before .check-length .ensures ∙ ap doneOption (c .before .enum-told .given .1))
 
 print-decoded-requires : tie.Need-print-decoded-requires
-print-decoded-requires c κs = frame-room (c .before .before .before .before .before .before .args .line .now) (c .before .before .before .check-length .ensures ∙ ap refusalOf (c .before .before .if1 .taken)) (length (c .before .before .before .before .before .before .args .out .now)) (c .before .before .before .before .before .before .pre)
+print-decoded-requires c κs =
+    let a = c .before .before .before .before .before .before .before .args in
+    frame-room (a .line .now) (c .before .before .before .before .check-length .ensures ∙ ap doneOption (c .before .before .enum-told .given .1)) (length (a .out .now)) (c .before .before .before .before .before .before .before .pre)
+
+enum-known-checked : tie.Need-enum-known-checked
+enum-known-checked c = search needs
+
+refuse-requires : tie.Need-refuse-requires
+refuse-requires c κs = search needs
 
 same-length : tie.Need-same-length
 same-length c = search needs
@@ -26,29 +37,28 @@ same-length c = search needs
 returns : tie.Need-returns
 returns c = search needs
 
-slice-aggregate-show : tie.Need-slice-aggregate-show
-slice-aggregate-show c = search needs
-
-show-requires : tie.Need-show-requires
-show-requires c κs = search needs
-
 same-length-2 : tie.Need-same-length-2
 same-length-2 c = search needs
 
 returns-2 : tie.Need-returns-2
-returns-2 c = reprint (c .before .before .before .before .before .before .before .before .before .args .out .now) (c .before .before .show .last .1 .1 .0) (c .before .before .show .result) _ (line-refused (c .before .before .before .before .before .before .before .before .before .args .line .now) (c .before .before .before .before .before .before .check-length .result) (c .before .before .before .before .before .before .check-length .ensures) (c .before .before .before .before .before .if1 .left)) (omega arith) (c .before .before .show .ensures)
+returns-2 c =
+    let a = c .before .before .before .before .before .before .before .before .before .before .args in
+    let r = c .before .before .refuse in
+    reprint (a .out .now) _ (r .result) _ (line-refused (a .line .now) (c .before .before .before .before .before .before .before .check-length .ensures ∙ ap doneOption (c .before .before .before .before .before .checked .given .1)))
+    (omega arith) (r .ensures)
 
 pub print-line-spec : {M : Type 1} → statement M
 print-line-spec =
     tie.close
     (tie.spec
     check-length-requires
+    enum-told
     array-borrow-prefix-frame
     slice-aggregate-print-decoded
     print-decoded-requires
+    enum-known-checked
+    refuse-requires
     same-length
     returns
-    slice-aggregate-show
-    show-requires
     same-length-2
     returns-2)
