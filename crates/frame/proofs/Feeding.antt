@@ -12,7 +12,7 @@ use lib.Seq.{take-all, length-take-le}
 use borrow.Author.Tests.{le-leb, eq-eqb, ne-eqb}
 use Rattle.text.specs.Digits.{decode}
 use Rattle.frame.specs.Frame.{Answer, refused, unlessRefused, frameAnswer, lineAnswer, shown, printLine}
-use Rattle.frame.specs.Lines.{linesFrom, printLines, printInput, held, fed, finished, fedAll, concat, FeedsWhole}
+use Rattle.frame.specs.Lines.{linesFrom, atEnd, printLines, printInput, held, fed, finished, fedAll, concat, FeedsWhole}
 
 -- ---- a long line is refused whatever its bytes are
 
@@ -54,15 +54,15 @@ held-short line h = take-all 16499 line h
 -- ---- a buffer
 
 -- the line that has not ended after a buffer, whole
-unfoldable carried : List ℕ → List ℕ → List ℕ
+unfoldable pub carried : List ℕ → List ℕ → List ℕ
 carried line [] = line
 carried line (c ∷ cs) = cond (eqb c 10) (carried [] cs) (carried (line ++ (c ∷ [])) cs)
 
 -- what is held is held of that line, and what is printed stands before what the rest prints
-record Buffer (line b : List ℕ) : Type 0 where
-  rest : fed (held line) b .rest ≡ held (carried line b)
-  printed : (more : List ℕ)
-      → fed (held line) b .printed ++ printLines (linesFrom (carried line b) more) ≡ printLines (linesFrom line (b ++ more))
+pub record Buffer (line b : List ℕ) : Type 0 where
+  pub rest : fed (held line) b .rest ≡ held (carried line b)
+  pub printed : (last : List ℕ → List (List ℕ)) (more : List ℕ)
+      → fed (held line) b .printed ++ printLines (linesFrom last (carried line b) more) ≡ printLines (linesFrom last line (b ++ more))
 
 module _ (line : List ℕ) (c : ℕ) (cs : List ℕ) where
   buffer-feed : eqb c 10 ≡ true → Buffer [] cs → Buffer line (c ∷ cs)
@@ -70,9 +70,9 @@ module _ (line : List ℕ) (c : ℕ) (cs : List ℕ) where
   buffer-feed e r =
       record {
         rest = rw e (r .rest);
-        printed = λ more. rw e
-            (append-assoc (printLine (held line)) (fed [] cs .printed) (printLines (linesFrom (carried [] cs) more))
-            ∙ ap₂ _++_ (held-enough line) (r .printed more));
+        printed = λ last more. rw e
+            (append-assoc (printLine (held line)) (fed [] cs .printed) (printLines (linesFrom last (carried [] cs) more))
+            ∙ ap₂ _++_ (held-enough line) (r .printed last more));
       }
 
   buffer-byte : eqb c 10 ≡ false → Buffer (line ++ (c ∷ [])) cs → Buffer line (c ∷ cs)
@@ -80,12 +80,12 @@ module _ (line : List ℕ) (c : ℕ) (cs : List ℕ) where
   buffer-byte e r =
       record {
         rest = rw (e, held-step) (r .rest);
-        printed = λ more. rw (e, held-step) (r .printed more);
+        printed = λ last more. rw (e, held-step) (r .printed last more);
       }
 
-buffer : (line b : List ℕ) → Buffer line b
+pub buffer : (line b : List ℕ) → Buffer line b
 unfolding fed carried
-buffer line [] = record { rest = refl; printed = λ more. refl }
+buffer line [] = record { rest = refl; printed = λ last more. refl }
 buffer line (c ∷ cs) = go (eqb c 10) refl (λ l. buffer l cs)
   where
     go : (t : Bool) → eqb c 10 ≡ t → ((l : List ℕ) → Buffer l cs) → Buffer line (c ∷ cs)
@@ -103,25 +103,25 @@ pub finished-none : (line : List ℕ) → length line ≡ 0 → finished line �
 unfolding finished
 finished-none line e = rw (eq-eqb (length line) 0 e) refl
 
-last-line : (line : List ℕ) → 0 < length line → printLines (linesFrom line []) ≡ printLine line
-unfolding linesFrom printLines
+last-line : (line : List ℕ) → 0 < length line → printLines (atEnd line) ≡ printLine line
+unfolding atEnd printLines
 last-line line h = rw (ne-eqb (length line) 0 (λ e. omega arith)) (append-nil (printLine line))
 
-finished-line : (line : List ℕ) → finished (held line) ≡ printLines (linesFrom line [])
-unfolding finished linesFrom printLines held
+pub finished-line : (line : List ℕ) → finished (held line) ≡ printLines (atEnd line)
+unfolding finished atEnd printLines held
 finished-line [] = refl
 finished-line (c ∷ cs) =
     let h : 0 < length (take 16499 (c ∷ cs)) = simp length-take (omega arith) in
     finished-some (take 16499 (c ∷ cs)) h ∙ held-enough (c ∷ cs) ∙ sym (last-line (c ∷ cs) (omega arith))
 
-feeds-line : (bs : List (List ℕ)) (line : List ℕ) → fedAll (held line) bs ≡ printLines (linesFrom line (concat bs))
-unfolding fedAll
+feeds-line : (bs : List (List ℕ)) (line : List ℕ) → fedAll (held line) bs ≡ printLines (linesFrom atEnd line (concat bs))
+unfolding fedAll linesFrom
 feeds-line [] line = finished-line line
 feeds-line (b ∷ bs) line =
     let r = buffer line b in
     ap (λ (l : List ℕ). fed (held line) b .printed ++ l)
     (ap (λ (l : List ℕ). fedAll l bs) (r .rest) ∙ feeds-line bs (carried line b))
-    ∙ r .printed (concat bs)
+    ∙ r .printed atEnd (concat bs)
 
 pub feeds-whole : FeedsWhole
 unfolding printInput held

@@ -1,6 +1,6 @@
 -- A turn of the program: the store for a line, and the theorem `turns-whole`. Assumes nothing.
 use mathlib.Core.Path.{_≡_, refl, sym, ap, ap₂, _∙_, subst}
-use mathlib.Core.Bool.{true, false}
+use mathlib.Core.Bool.{Bool, true, false, cond}
 use mathlib.Core.List.{List, [], _∷_, _++_, append-nil}
 use Prim.Native.Nat.{ℕ, zero, suc, _+_, _-_, _≤_, _<_}
 use native.Mathlib.Nat.{le-trans}
@@ -8,14 +8,14 @@ use native.Mathlib.Omega.{arith}
 use lib.IntN.{ℤ, pos, negsuc}
 use lib.ListN.{length, take, drop, getD, set, replicate, length-append, length-set, length-replicate, take-append-drop}
 use lib.Seq.{length-take-le, take-at, getD-append-add}
-use Rattle.block.proofs.Lists.{false-true, fill-turn, fill-end}
-use Rattle.frame.specs.Lines.{Fed, fed, finished, fedAll, concat, printInput}
-use Rattle.frame.specs.Turn.{Read, failed, ended, gave, readOf, Turned, turned, stored, turnCall, turns, inputOf, ends, TurnsWhole}
+use Rattle.block.proofs.Lists.{fill-turn, fill-end}
+use Rattle.frame.specs.Lines.{linesFrom, atEnd, printLines, printInput, printEnded, held, Fed, fed, finished}
+use Rattle.frame.specs.Turn.{Read, failed, ended, gave, readOf, Turned, turned, stored, turnCall, ifReadOn, printedBy, readsOf, inputOf, ends, TurnsWhole}
 use Rattle.frame.specs.Inner.{Prints, Feeds, givenOf}
 use Rattle.frame.specs.declared.Given.the-variants as G
 use Rattle.frame.specs.declared.Next.the-variants.{ReadOn, Ended, Failed}
 use Rattle.frame.specs.declared.Outcome.{Outcome}
-use Rattle.frame.proofs.Feeding.{feeds-whole}
+use Rattle.frame.proofs.Feeding.{carried, buffer, finished-line}
 
 -- ---- the store for a line, cleared behind its first n bytes
 
@@ -134,28 +134,43 @@ module _ (got : ℤ) (buffer line : List ℕ) (used : ℕ) (out : List ℕ) wher
 
 -- ---- the theorem
 
--- turns up to the end of the input feed the buffers that the reads gave
-unfoldable buffers : List Read → List (List ℕ)
-buffers [] = []
-buffers (failed ∷ rs) = []
-buffers (ended ∷ rs) = []
-buffers (gave b ∷ rs) = b ∷ buffers rs
+-- turns over what is held, whatever stands behind it in the store and in the output
+unfoldable turns : List ℕ → List Read → List ℕ
+turns line [] = []
+turns line (r ∷ rs) = let t : Turned = turned line r in t .printed ++ ifReadOn (t .next) (turns (t .rest) rs)
 
-turns-fed : (rs : List Read) (line : List ℕ) → ends rs ≡ true → turns line rs ≡ fedAll line (buffers rs)
-unfolding turns turned ends buffers fedAll
-turns-fed [] line e = false-true e
-turns-fed (failed ∷ rs) line e = false-true e
-turns-fed (ended ∷ rs) line e = append-nil (finished line)
-turns-fed (gave b ∷ rs) line e =
-    let r : Fed = fed line b in
-    ap (λ (l : List ℕ). r .printed ++ l) (turns-fed rs (r .rest) e)
+printed-turns : (reads : List (ℤ × List ℕ)) (line : List ℕ) (used : ℕ) (out : List ℕ) → printedBy line used out reads ≡ turns (take used line) (readsOf reads)
+unfolding printedBy turnCall stored turns readsOf
+printed-turns [] line used out = refl
+printed-turns ((got, buffer) ∷ reads) line used out =
+    let t : Turned = turned (take used line) (readOf got buffer) in
+    let n : ℕ = length (t .rest) in
+    ap₂ (λ (p q : List ℕ). p ++ ifReadOn (t .next) q)
+    (take-at (t .printed) (drop (length (t .printed)) out) (length (t .printed)) refl)
+    (printed-turns reads (stored (t .rest)) n (t .printed ++ drop (length (t .printed)) out)
+    ∙ ap (λ (l : List ℕ). turns l (readsOf reads)) (take-at (t .rest) (replicate (16499 - n) 0) n refl))
 
-buffers-all : (rs : List Read) → concat (buffers rs) ≡ inputOf rs
-unfolding buffers inputOf
-buffers-all [] = refl
-buffers-all (failed ∷ rs) = refl
-buffers-all (ended ∷ rs) = refl
-buffers-all (gave b ∷ rs) = ap (λ (l : List ℕ). b ++ l) (buffers-all rs)
+-- what becomes of what stands behind the last line feed
+unfoldable lastOf : Bool → List ℕ → List (List ℕ)
+lastOf true line = atEnd line
+lastOf false line = []
+
+turns-line : (rs : List Read) (line : List ℕ) → turns (held line) rs ≡ printLines (linesFrom (lastOf (ends rs)) line (inputOf rs))
+unfolding turns turned ends inputOf lastOf linesFrom printLines
+turns-line [] line = refl
+turns-line (failed ∷ rs) line = refl
+turns-line (ended ∷ rs) line = append-nil (finished (held line)) ∙ finished-line line
+turns-line (gave b ∷ rs) line =
+    let r = buffer line b in
+    ap (λ (l : List ℕ). fed (held line) b .printed ++ l)
+    (ap (λ (l : List ℕ). turns l rs) (r .rest) ∙ turns-line rs (carried line b))
+    ∙ r .printed (lastOf (ends rs)) (inputOf rs)
+
+ended-or-not : (b : Bool) (input : List ℕ) → printLines (linesFrom (lastOf b) [] input) ≡ cond b (printInput input) (printEnded input)
+unfolding lastOf printInput printEnded
+ended-or-not true input = refl
+ended-or-not false input = refl
 
 pub turns-whole : TurnsWhole
-turns-whole rs e = turns-fed rs [] e ∙ feeds-whole (buffers rs) ∙ ap printInput (buffers-all rs)
+unfolding held
+turns-whole line out reads = printed-turns reads line 0 out ∙ turns-line (readsOf reads) [] ∙ ended-or-not (ends (readsOf reads)) (inputOf (readsOf reads))

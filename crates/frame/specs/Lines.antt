@@ -10,17 +10,25 @@ use Rattle.frame.specs.Frame.{printLine}
 
 -- ---- the whole input
 
--- the lines, where `line` stands before the rest: each ends at a line feed, or, if it is not empty, at the end of the input
-unfoldable pub linesFrom : List ℕ → List ℕ → List (List ℕ)
-linesFrom line [] = cond (eqb (length line) 0) [] (line ∷ [])
-linesFrom line (c ∷ cs) = cond (eqb c 10) (line ∷ linesFrom [] cs) (linesFrom (line ++ (c ∷ [])) cs)
+-- the lines, where `line` stands before the rest: each ends at a line feed; `last` says which come of what stands behind the last line feed
+unfoldable pub linesFrom : (List ℕ → List (List ℕ)) → List ℕ → List ℕ → List (List ℕ)
+linesFrom last line [] = last line
+linesFrom last line (c ∷ cs) = cond (eqb c 10) (line ∷ linesFrom last [] cs) (linesFrom last (line ++ (c ∷ [])) cs)
+
+-- at the end of the input: a line, if it is not empty
+unfoldable pub atEnd : List ℕ → List (List ℕ)
+atEnd line = cond (eqb (length line) 0) [] (line ∷ [])
 
 unfoldable pub printLines : List (List ℕ) → List ℕ
 printLines [] = []
 printLines (line ∷ lines) = printLine line ++ printLines lines
 
 unfoldable pub printInput : List ℕ → List ℕ
-printInput input = printLines (linesFrom [] input)
+printInput input = printLines (linesFrom atEnd [] input)
+
+-- of an input whose end is not known, only the lines that a line feed ends
+unfoldable pub printEnded : List ℕ → List ℕ
+printEnded input = printLines (linesFrom (λ line. []) [] input)
 
 -- ---- one buffer at a time
 

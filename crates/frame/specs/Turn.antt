@@ -1,12 +1,12 @@
 -- A turn of the program `frames`: what it does with what a read gave, and what a list of turns prints. Assumes nothing: these are
--- definitions. That turns up to the end of the input print what the whole input does is proved as `turns-whole`.
+-- definitions. That the turns print what the whole input does is proved as `turns-whole`.
 use mathlib.Core.Path.{_≡_}
-use mathlib.Core.Bool.{Bool, true, false}
+use mathlib.Core.Bool.{Bool, true, false, cond}
 use mathlib.Core.List.{List, [], _∷_, _++_}
 use Prim.Native.Nat.{ℕ, zero, suc, _-_}
 use lib.IntN.{ℤ, pos, negsuc}
 use lib.ListN.{length, take, drop, replicate}
-use Rattle.frame.specs.Lines.{Fed, fed, finished, printInput}
+use Rattle.frame.specs.Lines.{Fed, fed, finished, printInput, printEnded}
 use Rattle.frame.specs.declared.Next.{Next}
 use Rattle.frame.specs.declared.Next.the-variants.{ReadOn, Ended, Failed}
 use Rattle.frame.specs.declared.Outcome.{Outcome}
@@ -59,11 +59,19 @@ ifReadOn ReadOn p = p
 ifReadOn Ended p = []
 ifReadOn Failed p = []
 
-unfoldable pub turns : List ℕ → List Read → List ℕ
-turns line [] = []
-turns line (r ∷ rs) = let t : Turned = turned line r in t .printed ++ ifReadOn (t .next) (turns (t .rest) rs)
+-- what is printed of the output, where each read answered a number and left a buffer
+unfoldable pub printedBy : List ℕ → ℕ → List ℕ → List (ℤ × List ℕ) → List ℕ
+printedBy line used out [] = []
+printedBy line used out ((got, buffer) ∷ reads) =
+    let t : Outcome × List ℕ × List ℕ = turnCall got buffer line used out in
+    take (t .0 .printed) (t .2) ++ ifReadOn (t .0 .next) (printedBy (t .1) (t .0 .used) (t .2) reads)
 
--- the bytes that reads gave, and whether the input came to its end
+-- what these reads gave
+unfoldable pub readsOf : List (ℤ × List ℕ) → List Read
+readsOf [] = []
+readsOf ((got, buffer) ∷ reads) = readOf got buffer ∷ readsOf reads
+
+-- the bytes up to the end or a failure, and whether the input came to its end
 unfoldable pub inputOf : List Read → List ℕ
 inputOf [] = []
 inputOf (failed ∷ rs) = []
@@ -78,5 +86,7 @@ ends (gave b ∷ rs) = ends rs
 
 -- ---- the theorem
 
+-- whatever reads give: up to the end of the input what the whole input prints, else what its ended lines do. Nothing is held at the start.
 abbrev pub TurnsWhole : Type 0
-TurnsWhole = (rs : List Read) → ends rs ≡ true → turns [] rs ≡ printInput (inputOf rs)
+TurnsWhole = (line out : List ℕ) (reads : List (ℤ × List ℕ)) →
+    let rs : List Read = readsOf reads in printedBy line 0 out reads ≡ cond (ends rs) (printInput (inputOf rs)) (printEnded (inputOf rs))

@@ -10,7 +10,6 @@ use mir.Syntax.{w64}
 use mir.Val.{toZ, ofZ}
 use mir.Facts.{toZ-ofZ, fits-natAbs, sfits-toZ, fits-ofZ}
 use Rattle.frame.specs.Inner.{givenOf}
-use Rattle.frame.specs.declared.Given.{Given}
 use Rattle.frame.specs.declared.Given.the-variants.{Failed, Bytes}
 use Rattle.frame.proofs.given_by.Statement.{statement}
 use Rattle.frame.proofs.given_by.Tie as tie
