@@ -1,51 +1,177 @@
 -- Demand 2. Assumes nothing.
-use mathlib.Core.Path.{_≡_, refl, sym, ap, _∙_}
+use mathlib.Core.Path.{_≡_, refl, sym, ap, subst, _∙_}
+use mathlib.Core.Logic.{_↔_}
 use mathlib.Core.Bool.{true}
 use mathlib.Core.List.{List, _++_}
-use mathlib.Core.Option.{none, some}
+use mathlib.Core.Option.{Option, none, some}
 use Prim.Native.Nat.{ℕ}
+use native.Mathlib.Omega.{arith}
 use lib.ListN.{length}
 use borrow.Author.Tests.{eq-eqb}
 use Rattle.block.specs.Bytes.{Plain}
 use Rattle.mode.specs.Sealing.{Key, Triple, tweak, sealed}
-use Rattle.mode.specs.Scheme.{Place, local, tag, remote, on, wide, isKey, isSize, Lawful, dcm, scheme}
+use Rattle.mode.specs.Scheme.{Place, local, tag, remote, on, wide, Sector, isKey, isSize, Scheme, Lawful, dcm, scheme}
 use Rattle.mode.proofs.Laws.{sound}
 use Rattle.verdict.specs.Answers.{firstOf, keyRules}
-use Rattle.sector.specs.Calls.{sizeRules, sideRules, openCall, rebuildCall, combineCall}
-use Rattle.sector.specs.Demand2.{sideNumber, Demand2-whole}
-use Rattle.verdict.specs.Verdict.{Fits, Side, localSide, remoteSide, placeOf, otherSide, opened}
+use Rattle.verdict.specs.Judging.{verdictOutcome}
+use Rattle.verdict.specs.Verdict.{Fits, Verdict, whole, doubtful, lost, clashing, Means, judge, Side, localSide, remoteSide, placeOf, otherSide, sideOf, opened}
+use Rattle.verdict.specs.Verdict as W
 use Rattle.verdict.proofs.JudgeExact.{FitsBut, but-local, but-tag, but-remote, one-for-a-pair, judge-exact}
-use Rattle.verdict.proofs.OpenExact.{opened-some, open-exact}
-use Rattle.sector.proofs.Public.{opened-by, open-passes, rebuild-passes, combine-passes}
+use Rattle.verdict.proofs.Numbers.{outcome-one}
+use Rattle.verdict.proofs.OpenExact.{open-plain, opened-none, open-exact}
+use Rattle.sector.specs.Calls.{sizeRules, sideRules, openOutcome, sealCall, judgeCall, openCall, rebuildCall, combineCall}
+use Rattle.sector.specs.Demand2.{sideNumber, SealsTo, Judges, Opens, Rebuilds, Demand2-whole}
+use Rattle.sector.proofs.Public.{opened-by, opened-by-none, seal-passes, judge-passes, open-passes, rebuild-passes, combine-passes}
+
+-- ---- what an outcome of opening says
+
+module _ (f : List ℕ → List ℕ) (out : List ℕ) where
+  some-says : (r : Option (List ℕ)) (y : List ℕ) → openOutcome f r out ≡ (0, y) → (P : List ℕ) × (r ≡ some P) × (y ≡ f P)
+  some-says none y e = absurd (let z : _≡_ {A = ℕ} 5 0 = ap (λ (u : ℕ × List ℕ). u .0) e in omega arith)
+  some-says (some P) y e = (P, refl, sym (ap (λ (u : ℕ × List ℕ). u .1) e))
+
+  none-says : (r : Option (List ℕ)) → openOutcome f r out ≡ (5, out) → r ≡ none
+  none-says none e = refl
+  none-says (some P) e = absurd (let z : _≡_ {A = ℕ} 0 5 = ap (λ (u : ℕ × List ℕ). u .0) e in omega arith)
+
+side-back : (d : Side) → sideOf (sideNumber d) ≡ d
+side-back localSide = refl
+side-back remoteSide = refl
+
+-- ---- lengths that pass the checks
 
 sizes-pass : (s x y g : ℕ) → isSize s ≡ true → x ≡ s → y ≡ s → g ≡ 16 → firstOf (sizeRules s x y g) ≡ none
 sizes-pass s x y g es ex ey eg = simp (es, eq-eqb x s ex, eq-eqb y s ey, eq-eqb g 16 eg)
 
-rules-pass : (k : Key) (s x y g : ℕ) (d : Side) → isKey k ≡ true → isSize s ≡ true → x ≡ s → y ≡ s → g ≡ 16
+keyed-pass : (k : Key) (s x y g : ℕ) → isKey k ≡ true → isSize s ≡ true → x ≡ s → y ≡ s → g ≡ 16 → firstOf (keyRules k ++ sizeRules s x y g) ≡ none
+keyed-pass k s x y g ek es ex ey eg = simp (ek, es, eq-eqb x s ex, eq-eqb y s ey, eq-eqb g 16 eg)
+
+sided-pass : (k : Key) (s x y g : ℕ) (d : Side) → isKey k ≡ true → isSize s ≡ true → x ≡ s → y ≡ s → g ≡ 16
     → firstOf (keyRules k ++ (sizeRules s x y g ++ sideRules (sideNumber d))) ≡ none
-rules-pass k s x y g localSide ek es ex ey eg = simp (ek, es, eq-eqb x s ex, eq-eqb y s ey, eq-eqb g 16 eg)
-rules-pass k s x y g remoteSide ek es ex ey eg = simp (ek, es, eq-eqb x s ex, eq-eqb y s ey, eq-eqb g 16 eg)
+sided-pass k s x y g localSide ek es ex ey eg = simp (ek, es, eq-eqb x s ex, eq-eqb y s ey, eq-eqb g 16 eg)
+sided-pass k s x y g remoteSide ek es ex ey eg = simp (ek, es, eq-eqb x s ex, eq-eqb y s ey, eq-eqb g 16 eg)
 
 module _ (k : Key) (s : ℕ) (ek : isKey k ≡ true) (es : isSize s ≡ true) where
-  lawful : Lawful s (scheme k)
+  abbrev S : Scheme
+  S = scheme k
+
+  lawful : Lawful s S
   lawful = sound .lawful k s ek es
 
+  -- ---- two places
+
   -- two places are all but one
-  pair : (T : ℕ) (t : Triple) (p q : Place) → (p ≡ q → ⊥) → (d : Place) × ((P : List ℕ) → Fits (scheme k) T t p P → Fits (scheme k) T t q P → FitsBut (scheme k) T t d P)
+  pair : (T : ℕ) (t : Triple) (p q : Place) → (p ≡ q → ⊥) → (d : Place) × ((P : List ℕ) → Fits S T t p P → Fits S T t q P → FitsBut S T t d P)
   pair T t local local n = absurd (n refl)
-  pair T t local tag n = (remote, λ P x y. but-remote (scheme k) T t P x y)
-  pair T t local remote n = (tag, λ P x y. but-tag (scheme k) T t P x y)
-  pair T t tag local n = (remote, λ P x y. but-remote (scheme k) T t P y x)
+  pair T t local tag n = (remote, λ P x y. but-remote S T t P x y)
+  pair T t local remote n = (tag, λ P x y. but-tag S T t P x y)
+  pair T t tag local n = (remote, λ P x y. but-remote S T t P y x)
   pair T t tag tag n = absurd (n refl)
-  pair T t tag remote n = (local, λ P x y. but-local (scheme k) T t P x y)
-  pair T t remote local n = (tag, λ P x y. but-tag (scheme k) T t P y x)
-  pair T t remote tag n = (local, λ P x y. but-local (scheme k) T t P y x)
+  pair T t tag remote n = (local, λ P x y. but-local S T t P x y)
+  pair T t remote local n = (tag, λ P x y. but-tag S T t P y x)
+  pair T t remote tag n = (local, λ P x y. but-local S T t P y x)
   pair T t remote remote n = absurd (n refl)
 
   one-for-two : (T : ℕ) (t : Triple) (p q : Place) → (p ≡ q → ⊥) → (P Q : List ℕ) → Plain s P → Plain s Q
-      → Fits (scheme k) T t p P → Fits (scheme k) T t q P → Fits (scheme k) T t p Q → Fits (scheme k) T t q Q → P ≡ Q
+      → Fits S T t p P → Fits S T t q P → Fits S T t p Q → Fits S T t q Q → P ≡ Q
   one-for-two T t p q n P Q hp hq a b c d =
-      let u = pair T t p q n in one-for-a-pair s (scheme k) lawful T t (u .0) P Q hp hq (u .1 P a b) (u .1 Q c d)
+      let u = pair T t p q n in one-for-a-pair s S lawful T t (u .0) P Q hp hq (u .1 P a b) (u .1 Q c d)
+
+  -- ---- seal
+
+  seals : (address : ℕ) (P : List ℕ) (out : Triple) → Plain s P → ((p : Place) → length (on out p) ≡ wide s p) → sealCall k address P out ≡ (0, sealed k address P)
+  seals address P out plain long =
+      let e = plain .long in
+      seal-passes (k .bytes) address P out
+      (keyed-pass k (length P) (length (out .local)) (length (out .remote)) (length (out .tag)) ek (ap isSize e ∙ es) (long local ∙ sym e) (long remote ∙ sym e) (long tag))
+
+  -- ---- judge
+
+  module _ (address : ℕ) (t : Triple) (out : List ℕ) (σ : Sector s t) (size : length out ≡ s) where
+    judge-is : judgeCall k address t out ≡ verdictOutcome (judge S (tweak address) t) out
+    judge-is =
+        let e = σ .places local .long in
+        judge-passes (k .bytes) address t out
+        (keyed-pass k (length (t .local)) (length (t .remote)) (length out) (length (t .tag)) ek (ap isSize e ∙ es) (σ .places remote .long ∙ sym e) (size ∙ sym e) (σ .places tag .long))
+
+    judged : (w : Verdict) → (judgeCall k address t out ≡ verdictOutcome w out) ↔ Means s S (tweak address) t w
+    judged w =
+        let exact = judge-exact s S lawful (tweak address) t σ w in
+        (λ e. exact .0 (outcome-one (judge S (tweak address) t) w out (sym judge-is ∙ e)), λ m. judge-is ∙ ap (λ (v : Verdict). verdictOutcome v out) (exact .1 m))
+
+    judges : Judges k s address t out
+    judges = record { at-whole = λ P. judged (whole P); at-doubtful = λ d P. judged (doubtful d P); at-lost = judged lost; at-clashing = judged clashing }
+
+  -- ---- open and rebuild
+
+  module _ (address : ℕ) (d : Side) (x g out : List ℕ) (plain-x : Plain s x) (plain-g : Plain 16 g) (size : length out ≡ s) where
+    abbrev result : Option (List ℕ)
+    result = opened S (tweak address) d g x
+
+    abbrev Sealed : List ℕ → Type 0
+    Sealed P = SealsTo k s address d x g P
+
+    fits-of : (P : List ℕ) → Sealed P → W.Opens S (tweak address) d g x P
+    unfolding sealed scheme dcm
+    fits-of P h = record { fits-tag = h .its-tag; fits-side = h .sector }
+
+    of-fits : (P : List ℕ) → Plain s P → W.Opens S (tweak address) d g x P → Sealed P
+    unfolding sealed scheme dcm
+    of-fits P p o = record { size = p; sector = o .fits-side; its-tag = o .fits-tag }
+
+    found : (P : List ℕ) → (result ≡ some P) ↔ Sealed P
+    found P =
+        let e = open-exact s S lawful (tweak address) d g x plain-g plain-x P in
+        (λ r. of-fits P (e .0 r .0) (e .0 r .1), λ h. e .1 (h .size, fits-of P h))
+
+    none-found : (result ≡ none) ↔ ((P : List ℕ) → Sealed P → ⊥)
+    none-found = (
+      λ e P h. let r = found P .1 h in let z : _≡_ {A = ℕ} 0 1 = cc in omega arith,
+      λ never. opened-none s S lawful (tweak address) d g x (open-plain s S lawful (tweak address) d g x plain-g plain-x) (λ P p o. never P (of-fits P p o)),
+    )
+
+    -- a call whose answer is the outcome under f
+    module _ (f : List ℕ → List ℕ) {a : ℕ × List ℕ} (is : a ≡ openOutcome f result out) where
+      writes : (y : List ℕ) → (a ≡ (0, y)) ↔ ((P : List ℕ) × Sealed P × (y ≡ f P))
+      writes y =
+          (λ e. let u = some-says f out result y (sym is ∙ e) in (u .0, found (u .0) .0 (u .1), u .2), λ u. is ∙ opened-by f out (found (u .0) .1 (u .1)) (u .2))
+
+      refuses : (a ≡ (5, out)) ↔ ((P : List ℕ) → Sealed P → ⊥)
+      refuses = (λ e. none-found .0 (none-says f out result (sym is ∙ e)), λ never. is ∙ opened-by-none f out (none-found .1 never))
+
+    passes : firstOf (keyRules k ++ (sizeRules (length x) (length out) (length out) (length g) ++ sideRules (sideNumber d))) ≡ none
+    passes =
+        let e = plain-x .long in sided-pass k (length x) (length out) (length out) (length g) d ek (ap isSize e ∙ es) (size ∙ sym e) (size ∙ sym e) (plain-g .long)
+
+    abbrev itself : List ℕ → List ℕ
+    itself P = P
+
+    open-is : openCall k address (sideNumber d) x g out ≡ openOutcome itself result out
+    open-is =
+        open-passes (k .bytes) address (sideNumber d) x g out passes
+        ∙ ap (λ (c : Side). openOutcome itself (opened S (tweak address) c g x) out) (side-back d)
+
+    opens : Opens k s address d x g out
+    opens = record {
+      gives =
+          λ P.
+          let w = writes itself open-is P in
+          (λ e. let u = w .0 e in subst Sealed (sym (u .2)) (u .1), λ h. w .1 (P, h, refl));
+      refuses = refuses itself open-is;
+    }
+
+    abbrev opposite : List ℕ → List ℕ
+    opposite P = on (sealed k address P) (placeOf (otherSide d))
+
+    rebuild-is : rebuildCall k address (sideNumber d) x g out ≡ openOutcome opposite result out
+    rebuild-is =
+        rebuild-passes (k .bytes) address (sideNumber d) x g out passes
+        ∙ ap (λ (c : Side). openOutcome (λ P. on (sealed k address P) (placeOf (otherSide c))) (opened S (tweak address) c g x) out) (side-back d)
+
+    rebuilds : Rebuilds k s address d x g out
+    rebuilds = record { writes = writes opposite rebuild-is; refuses = refuses opposite rebuild-is }
+
+  -- ---- a sealed sector
 
   module _ (address : ℕ) (P out : List ℕ) (plain : Plain s P) (size : length out ≡ s) where
     abbrev t : Triple
@@ -55,41 +181,38 @@ module _ (k : Key) (s : ℕ) (ek : isKey k ≡ true) (es : isSize s ≡ true) wh
     unfolding sealed scheme dcm
     long p = lawful .shape (tweak address) P plain .places p
 
-    side-long : (d : Side) → length (on t (placeOf d)) ≡ s
-    side-long localSide = long local .long
-    side-long remoteSide = long remote .long
+    side-plain : (d : Side) → Plain s (on t (placeOf d))
+    side-plain localSide = long local
+    side-plain remoteSide = long remote
 
-    passes : (d : Side) → firstOf (keyRules k ++ (sizeRules (length (on t (placeOf d))) (length out) (length out) (length (t .tag)) ++ sideRules (sideNumber d))) ≡ none
-    passes d =
-        let e = side-long d in
-        rules-pass k (length (on t (placeOf d))) (length out) (length out) (length (t .tag)) d ek (ap isSize e ∙ es) (size ∙ sym e) (size ∙ sym e) (long tag .long)
+    itself-sealed : (d : Side) → SealsTo k s address d (on t (placeOf d)) (t .tag) P
+    itself-sealed d = record { size = plain; sector = refl; its-tag = refl }
 
-    found : (d : Side) → opened (scheme k) (tweak address) d (t .tag) (on t (placeOf d)) ≡ some P
+    opens-sealed : (d : Side) → openCall k address (sideNumber d) (on t (placeOf d)) (t .tag) out ≡ (0, P)
+    opens-sealed d = opens address d (on t (placeOf d)) (t .tag) out (side-plain d) (long tag) size .gives P .1 (itself-sealed d)
+
+    rebuilds-sealed : (d : Side) → rebuildCall k address (sideNumber d) (on t (placeOf d)) (t .tag) out ≡ (0, on t (placeOf (otherSide d)))
+    rebuilds-sealed d =
+        rebuilds address d (on t (placeOf d)) (t .tag) out (side-plain d) (long tag) size .writes (on t (placeOf (otherSide d))) .1 (P, itself-sealed d, refl)
+
+    combines-sealed : combineCall (t .local) (t .remote) out ≡ (0, P)
     unfolding sealed scheme dcm
-    found d = opened-some s (scheme k) lawful (tweak address) d (t .tag) (on t (placeOf d)) P plain (record { fits-tag = refl; fits-side = refl })
-
-    opens : (d : Side) → openCall k address (sideNumber d) (on t (placeOf d)) (t .tag) out ≡ (0, P)
-    opens localSide = open-passes (k .bytes) address 0 (t .local) (t .tag) out (passes localSide) ∙ opened-by (λ Q. Q) out (found localSide) refl
-    opens remoteSide = open-passes (k .bytes) address 1 (t .remote) (t .tag) out (passes remoteSide) ∙ opened-by (λ Q. Q) out (found remoteSide) refl
-
-    rebuilds : (d : Side) → rebuildCall k address (sideNumber d) (on t (placeOf d)) (t .tag) out ≡ (0, on t (placeOf (otherSide d)))
-    rebuilds localSide = rebuild-passes (k .bytes) address 0 (t .local) (t .tag) out (passes localSide) ∙ opened-by (λ Q. sealed k address Q .remote) out (found localSide) refl
-    rebuilds remoteSide = rebuild-passes (k .bytes) address 1 (t .remote) (t .tag) out (passes remoteSide) ∙ opened-by (λ Q. sealed k address Q .local) out (found remoteSide) refl
-
-    combines : combineCall (t .local) (t .remote) out ≡ (0, P)
-    unfolding sealed scheme dcm
-    combines =
-        let e = side-long localSide in
+    combines-sealed =
+        let e = long local .long in
         combine-passes (t .local) (t .remote) out
-        (sizes-pass (length (t .local)) (length (t .remote)) (length out) 16 (ap isSize e ∙ es) (side-long remoteSide ∙ sym e) (size ∙ sym e) refl)
+        (sizes-pass (length (t .local)) (length (t .remote)) (length out) 16 (ap isSize e ∙ es) (long remote .long ∙ sym e) (size ∙ sym e) refl)
         ∙ ap (λ (Q : List ℕ). (0, Q)) (lawful .sum (tweak address) P plain)
 
 pub demand-2 : Demand2-whole
 demand-2 k s ek es = record {
+  seals = seals k s ek es;
+  judges = judges k s ek es;
+  opens = opens k s ek es;
+  rebuilds = rebuilds k s ek es;
+  opens-sealed = λ address d P out p e. opens-sealed k s ek es address P out p e d;
+  rebuilds-sealed = λ address d P out p e. rebuilds-sealed k s ek es address P out p e d;
+  combines-sealed = combines-sealed k s ek es;
   judging = judge-exact s (scheme k) (lawful k s ek es);
   opening = open-exact s (scheme k) (lawful k s ek es);
   one-for-two = one-for-two k s ek es;
-  opens = λ address d P out p e. opens k s ek es address P out p e d;
-  rebuilds = λ address d P out p e. rebuilds k s ek es address P out p e d;
-  combines = combines k s ek es;
 }

@@ -1,9 +1,9 @@
 -- The numbers of answers: 0, the refusals below 128, the doubtful places above. Assumes nothing.
-use mathlib.Core.Path.{_≡_, refl, ap}
-use mathlib.Core.List.{List}
+use mathlib.Core.Path.{_≡_, refl, sym, ap, _∙_}
+use mathlib.Core.Bool.{cond}
+use mathlib.Core.List.{List, []}
 use Prim.Native.Nat.{ℕ, _<_}
-use native.Mathlib.Omega.{arith}
-use lib.Dec.{lit<}
+use lib.Dec.{eqb, lit<}
 use Rattle.mode.specs.Scheme.{Place, local, tag, remote}
 use Rattle.verdict.specs.declared.Refusal.{Refusal}
 use Rattle.verdict.specs.declared.Refusal.the-variants.{KeyLength, SectorSize, OtherLength, UnknownSide, NoneFits, Lost, Clashing, VolumeShape, SectorNumber, StageOrder, ListLength, NoFrame}
@@ -37,39 +37,40 @@ outcome-number (doubtful d P) out = refl
 outcome-number lost out = refl
 outcome-number clashing out = refl
 
--- ---- the verdict behind a number
+-- ---- an answer and its bytes name the verdict
 
-pub doubts-same : (p q : Place) → doubtNumber p ≡ doubtNumber q → p ≡ q
-doubts-same local local e = refl
-doubts-same local tag e = absurd (omega arith)
-doubts-same local remote e = absurd (omega arith)
-doubts-same tag local e = absurd (omega arith)
-doubts-same tag tag e = refl
-doubts-same tag remote e = absurd (omega arith)
-doubts-same remote local e = absurd (omega arith)
-doubts-same remote tag e = absurd (omega arith)
-doubts-same remote remote e = refl
+abbrev named : ℕ × List ℕ → Verdict
+named a =
+    cond (eqb (a .0) 0) (whole (a .1))
+    (cond (eqb (a .0) 6) lost
+    (cond (eqb (a .0) 7) clashing
+    (cond (eqb (a .0) 0x81) (doubtful local (a .1)) (cond (eqb (a .0) 0x82) (doubtful tag (a .1)) (doubtful remote (a .1))))))
+
+named-back : (w : Verdict) (out : List ℕ) → named (verdictOutcome w out) ≡ w
+named-back (whole P) out = refl
+named-back (doubtful local P) out = refl
+named-back (doubtful tag P) out = refl
+named-back (doubtful remote P) out = refl
+named-back lost out = refl
+named-back clashing out = refl
+
+pub outcome-one : (v w : Verdict) (out : List ℕ) → verdictOutcome v out ≡ verdictOutcome w out → v ≡ w
+outcome-one v w out e = sym (named-back v out) ∙ ap named e ∙ named-back w out
+
+-- and so does its number, but for the plaintext
+number-named : (w : Verdict) (n : ℕ) → verdictNumber w ≡ n → w ≡ named (n, verdictOutcome w [] .1)
+number-named w n e = sym (named-back w []) ∙ ap (λ (m : ℕ). named (m, verdictOutcome w [] .1)) e
 
 pub number-whole : (w : Verdict) → verdictNumber w ≡ 0 → (P : List ℕ) × (w ≡ whole P)
-number-whole (whole P) e = (P, refl)
-number-whole (doubtful d P) e = absurd (omega (arith, doubt-least d))
-number-whole lost e = absurd (omega arith)
-number-whole clashing e = absurd (omega arith)
+number-whole w e = (verdictOutcome w [] .1, number-named w 0 e)
 
 pub number-doubtful : (w : Verdict) (d : Place) → verdictNumber w ≡ doubtNumber d → (P : List ℕ) × (w ≡ doubtful d P)
-number-doubtful (whole P) d e = absurd (omega (arith, doubt-least d))
-number-doubtful (doubtful q P) d e = (P, ap (λ (p : Place). doubtful p P) (doubts-same q d e))
-number-doubtful lost d e = absurd (omega (arith, doubt-least d))
-number-doubtful clashing d e = absurd (omega (arith, doubt-least d))
+number-doubtful w local e = (verdictOutcome w [] .1, number-named w 0x81 e)
+number-doubtful w tag e = (verdictOutcome w [] .1, number-named w 0x82 e)
+number-doubtful w remote e = (verdictOutcome w [] .1, number-named w 0x83 e)
 
 pub number-lost : (w : Verdict) → verdictNumber w ≡ 6 → w ≡ lost
-number-lost (whole P) e = absurd (omega arith)
-number-lost (doubtful d P) e = absurd (omega (arith, doubt-least d))
-number-lost lost e = refl
-number-lost clashing e = absurd (omega arith)
+number-lost w e = number-named w 6 e
 
 pub number-clashing : (w : Verdict) → verdictNumber w ≡ 7 → w ≡ clashing
-number-clashing (whole P) e = absurd (omega arith)
-number-clashing (doubtful d P) e = absurd (omega (arith, doubt-least d))
-number-clashing lost e = absurd (omega arith)
-number-clashing clashing e = refl
+number-clashing w e = number-named w 7 e
