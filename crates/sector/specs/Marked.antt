@@ -1,23 +1,29 @@
 -- Document 01's marked table as one statement on the definitions: proved as `marked`. Short values are blocks with leading zeros.
 use mathlib.Core.Path.{_≡_}
 use mathlib.Core.List.{List, [], _∷_, _++_}
-use Prim.Native.Nat.{ℕ}
+use Prim.Native.Nat.{ℕ, _^_, _<_}
 use lib.ListN.{getD}
 use Rattle.block.specs.Bytes.{Plain, toBytes}
 use Rattle.block.specs.Field.{mul}
 use Rattle.aes.specs.Aes.{sBoxTable}
 use Rattle.hash.specs.Brw.{brw}
-use Rattle.mode.specs.Sealing.{tweak, localBlock, remoteBlock, sealed}
-use Rattle.mode.specs.Scheme.{scheme}
-use Rattle.verdict.specs.Judging.{key, triple}
+use Rattle.mode.specs.Sealing.{Key, hashKey, tweak, localBlock, remoteBlock}
+use Rattle.mode.specs.Scheme.{Scheme, dcm, scheme}
+use Rattle.verdict.specs.Judging.{triple}
 use Rattle.verdict.specs.Verdict.{clashing, judge}
 
--- row (h)'s plaintexts of two blocks: the hash key H and then 0, and then 1
-abbrev pub first : List ℕ → List ℕ
-first H = H ++ toBytes 16 0
+-- row (h)'s plaintexts of two blocks: h and then 0, and h and then 1
+abbrev pub first : ℕ → List ℕ
+first h = toBytes 16 h ++ toBytes 16 0
 
-abbrev pub second : List ℕ → List ℕ
-second H = H ++ toBytes 16 1
+abbrev pub second : ℕ → List ℕ
+second h = toBytes 16 h ++ toBytes 16 1
+
+-- P and Q have one tag, and either one's local with the other's remote and that tag clash
+pub record Clash (S : Scheme) (T : ℕ) (P Q : List ℕ) : Type 0 where
+  pub one-tag : S .sealed T P .tag ≡ S .sealed T Q .tag
+  pub one-way : judge S T (triple (S .sealed T P .local) (S .sealed T P .tag) (S .sealed T Q .remote)) ≡ clashing
+  pub other-way : judge S T (triple (S .sealed T Q .local) (S .sealed T P .tag) (S .sealed T P .remote)) ≡ clashing
 
 pub record Marked : Type 0 where
   pub row-a : mul 0x02 0x01 ≡ 0x02
@@ -35,11 +41,9 @@ pub record Marked : Type 0 where
   -- both plaintexts have the hash T,
   pub row-h-first : (h T : ℕ) → brw h (h ∷ 0 ∷ T ∷ []) ≡ T
   pub row-h-second : (h T : ℕ) → brw h (h ∷ 1 ∷ T ∷ []) ≡ T
-  -- so the one's local with the other's remote and that tag clash: for every AES key K and every address
-  pub row-h-clash : (H K : List ℕ) → Plain 16 H → Plain 16 K → (address : ℕ) →
-      let k = key (H ++ K) in
-      let one = sealed k address (first H) in
-      let other = sealed k address (second H) in
-      (one .tag ≡ other .tag) × (judge (scheme k) (tweak address) (triple (one .local) (one .tag) (other .remote)) ≡ clashing)
+  -- so the one's local with the other's remote and that tag clash: over every cipher E that gives blocks,
+  pub row-h-clash : (E : ℕ → ℕ) → ((x : ℕ) → E x < 2 ^ 128) → (h : ℕ) → h < 2 ^ 128 → (T : ℕ) → Clash (dcm E h) T (first h) (second h)
+  -- and so under every key and at every address
+  pub row-h-clash-key : (k : Key) → Plain 32 (k .bytes) → (address : ℕ) → Clash (scheme k) (tweak address) (first (hashKey k)) (second (hashKey k))
   pub row-i-00 : getD sBoxTable 0x00 0 ≡ 0x63
   pub row-i-53 : getD sBoxTable 0x53 0 ≡ 0xed
