@@ -21,7 +21,8 @@ use Rattle.verdict.proofs.Numbers.{outcome-one}
 use Rattle.verdict.proofs.OpenExact.{open-plain, opened-none, open-exact}
 use Rattle.sector.specs.Calls.{sizeRules, sideRules, openOutcome, sealCall, judgeCall, openCall, rebuildCall, combineCall}
 use Rattle.sector.specs.Demand2.{sideNumber, SealsTo, Judges, Opens, Rebuilds, Demand2-whole}
-use Rattle.sector.proofs.Public.{opened-by, opened-by-none, seal-passes, judge-passes, open-passes, rebuild-passes, combine-passes}
+use Rattle.sector.proofs.Opening.{outcome-some, outcome-none}
+use Rattle.sector.proofs.Public.{settle-none, seal-passes, judge-passes, combine-passes}
 
 -- ---- what an outcome of opening says
 
@@ -134,10 +135,10 @@ module _ (k : Key) (s : ℕ) (ek : isKey k ≡ true) (es : isSize s ≡ true) wh
     module _ (f : List ℕ → List ℕ) {a : ℕ × List ℕ} (is : a ≡ openOutcome f result out) where
       writes : (y : List ℕ) → (a ≡ (0, y)) ↔ ((P : List ℕ) × Sealed P × (y ≡ f P))
       writes y =
-          (λ e. let u = some-says f out result y (sym is ∙ e) in (u .0, found (u .0) .0 (u .1), u .2), λ u. is ∙ opened-by f out (found (u .0) .1 (u .1)) (u .2))
+          (λ e. let u = some-says f out result y (sym is ∙ e) in (u .0, found (u .0) .0 (u .1), u .2), λ u. is ∙ outcome-some f out (found (u .0) .1 (u .1)) (u .2))
 
       refuses : (a ≡ (5, out)) ↔ ((P : List ℕ) → Sealed P → ⊥)
-      refuses = (λ e. none-found .0 (none-says f out result (sym is ∙ e)), λ never. is ∙ opened-by-none f out (none-found .1 never))
+      refuses = (λ e. none-found .0 (none-says f out result (sym is ∙ e)), λ never. is ∙ outcome-none f out (none-found .1 never))
 
     passes : firstOf (keyRules k ++ (sizeRules (length x) (length out) (length out) (length g) ++ sideRules (sideNumber d))) ≡ none
     passes =
@@ -147,8 +148,9 @@ module _ (k : Key) (s : ℕ) (ek : isKey k ≡ true) (es : isSize s ≡ true) wh
     itself P = P
 
     open-is : openCall k address (sideNumber d) x g out ≡ openOutcome itself result out
+    unfolding openCall
     open-is =
-        open-passes (k .bytes) address (sideNumber d) x g out passes
+        settle-none _ out passes
         ∙ ap (λ (c : Side). openOutcome itself (opened S (tweak address) c g x) out) (side-back d)
 
     opens : Opens k s address d x g out
@@ -164,8 +166,9 @@ module _ (k : Key) (s : ℕ) (ek : isKey k ≡ true) (es : isSize s ≡ true) wh
     opposite P = on (sealed k address P) (placeOf (otherSide d))
 
     rebuild-is : rebuildCall k address (sideNumber d) x g out ≡ openOutcome opposite result out
+    unfolding rebuildCall
     rebuild-is =
-        rebuild-passes (k .bytes) address (sideNumber d) x g out passes
+        settle-none _ out passes
         ∙ ap (λ (c : Side). openOutcome (λ P. on (sealed k address P) (placeOf (otherSide c))) (opened S (tweak address) c g x) out) (side-back d)
 
     rebuilds : Rebuilds k s address d x g out

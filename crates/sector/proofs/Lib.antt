@@ -1,5 +1,6 @@
 pub mod Checks
 pub mod Prepared
 pub mod Public
+pub mod Opening
 pub mod Marked
 pub mod Demand2

@@ -12,12 +12,11 @@ use Rattle.hash.specs.Powers.{keyOf}
 use Rattle.mode.specs.declared.Context.{Context}
 use Rattle.mode.specs.declared.Prepared.{Prepared}
 use Rattle.mode.specs.Prepared.{PreparedFor}
-use Rattle.mode.specs.Scheme.{on, Scheme, dcm, scheme}
+use Rattle.mode.specs.Scheme.{Scheme, dcm, scheme}
 use Rattle.mode.specs.Sealing.{tweak, tagBlock, sides, sealedBy, sealed}
 use Rattle.verdict.specs.Judging.{key, triple, schemeOf, verdictOutcome, Lent, judgedBy}
-use Rattle.verdict.specs.Verdict.{placeOf, otherSide, sideOf, opened, judge}
+use Rattle.verdict.specs.Verdict.{judge}
 use Rattle.verdict.proofs.Prepared.{ContextOf, scheme-is, ready-of}
-use Rattle.sector.specs.Calls.{openOutcome}
 use Rattle.sector.specs.Sizes.{Sizes}
 
 module _ (k : List ℕ) (r : Prepared) (e : PreparedFor k r) (m : Context) (address : ℕ) (em : ContextOf r m address) where
@@ -31,18 +30,6 @@ module _ (k : List ℕ) (r : Prepared) (e : PreparedFor k r) (m : Context) (addr
   pub scheme-sealed : (P : List ℕ) → schemeOf (r .words) (r .powers) .sealed (value (m .tweak)) P ≡ sealed (key k) address P
   unfolding sealed scheme dcm
   scheme-sealed P = ap₂ (λ (S : Scheme) (T : ℕ). S .sealed T P) (scheme-is k r e) (em .2)
-
-  -- opening and rebuilding with it
-  pub opened-is : (d : ℕ) (x g out : List ℕ)
-      → openOutcome (λ P. P) (opened (schemeOf (r .words) (r .powers)) (value (m .tweak)) (sideOf d) g x) out ≡ openOutcome (λ P. P) (opened (scheme (key k)) (tweak address) (sideOf d) g x) out
-  opened-is d x g out = ap₂ (λ (S : Scheme) (T : ℕ). openOutcome (λ P. P) (opened S T (sideOf d) g x) out) (scheme-is k r e) (em .2)
-
-  pub rebuilt-is : (d : ℕ) (x g out : List ℕ)
-      → openOutcome (λ P. on (schemeOf (r .words) (r .powers) .sealed (value (m .tweak)) P) (placeOf (otherSide (sideOf d)))) (opened (schemeOf (r .words) (r .powers)) (value (m .tweak)) (sideOf d) g x) out
-      ≡ openOutcome (λ P. on (sealed (key k) address P) (placeOf (otherSide (sideOf d)))) (opened (scheme (key k)) (tweak address) (sideOf d) g x) out
-  unfolding sealed scheme dcm
-  rebuilt-is d x g out =
-      ap₂ (λ (S : Scheme) (T : ℕ). openOutcome (λ P. on (S .sealed T P) (placeOf (otherSide (sideOf d)))) (opened S T (sideOf d) g x) out) (scheme-is k r e) (em .2)
 
 -- three places that are written make the sealed sector
 pub sealed-is : (w p : List ℕ) (T : ℕ) (P old : List ℕ) → length old ≡ 16 → (g : ℕ) → g ≡ tagBlock (cipherNumber w) (keyOf p) T P

@@ -11,7 +11,7 @@ use Rattle.mode.specs.Sealing.{Key, Triple, tweak, sealed}
 use Rattle.mode.specs.Scheme.{Place, on, wide, Sector, isKey, isSize, scheme}
 use Rattle.sector.specs.Calls.{sealCall, judgeCall, openCall, rebuildCall, combineCall}
 use Rattle.verdict.specs.Answers.{doubtNumber}
-use Rattle.verdict.specs.Verdict.{Fits, Verdict, whole, doubtful, lost, clashing, Means, Side, localSide, remoteSide, placeOf, otherSide, JudgeExact, OpenExact}
+use Rattle.verdict.specs.Verdict.{Fits, whole, doubtful, lost, clashing, Means, Side, localSide, remoteSide, placeOf, otherSide, JudgeExact, OpenExact}
 
 -- the number of a side
 abbrev pub sideNumber : Side → ℕ

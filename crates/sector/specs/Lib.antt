@@ -1,4 +1,5 @@
 pub mod Calls
+pub mod Opening
 pub mod Sizes
 pub mod Marked
 pub mod Demand2

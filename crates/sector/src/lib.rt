@@ -10,14 +10,15 @@ ghost use mathlib.Core.List.{_++_};
 ghost use lib.ListN.{length};
 ghost use Rattle.block.specs.Value.{value};
 ghost use Rattle.mode.specs.Prepared.{Ready};
-ghost use Rattle.mode.specs.Scheme.{on, scheme};
+ghost use Rattle.mode.specs.Scheme.{scheme};
 ghost use Rattle.mode.specs.Sealing.{tweak, sealed};
 ghost use Rattle.verdict.specs.Answers.{firstOf, keyRules, doneOption, doneNumber, judgedNumber};
 ghost use Rattle.verdict.specs.Judging.{schemeOf, sealingOf, verdictOutcome};
 ghost use Rattle.verdict.specs.Judging as J;
-ghost use Rattle.verdict.specs.Verdict.{placeOf, otherSide, sideOf, opened};
+ghost use Rattle.verdict.specs.Verdict.{otherSide, sideOf};
 ghost use Rattle.verdict.specs.Verdict as W;
-ghost use Rattle.sector.specs.Calls.{sizeRules, sideRules, openOutcome, sealCall, judgeCall, openCall, rebuildCall, combineCall};
+ghost use Rattle.sector.specs.Calls.{sizeRules, sideRules, sealCall, judgeCall, openCall, rebuildCall, combineCall};
+ghost use Rattle.sector.specs.Opening.{openedAs, openAs};
 ghost use Rattle.sector.specs.Sizes.{Sizes};
 
 // Refusals 2 and 3: the size s, two lengths that must equal it, and a tag's length.
@@ -202,12 +203,19 @@ fn check_open(key: &[u8], s: usize, out: usize, g: usize, side: u32) -> Done
     }
 }
 
-// Opens a side with a prepared key: the plaintext reaches `out` only if it has the tag.
+// What opening a side writes: the plaintext, or the opposite side as the plaintext seals.
+enum Wanted {
+    Plaintext,
+    Opposite,
+}
+
+// Opens a side with a prepared key: what is wanted reaches `out` only if the plaintext has the tag.
 fn open_in(
     t: &Table,
     w: &[u32],
     powers: &[u64; 18],
     m: Context,
+    wanted: Wanted,
     side: u32,
     x: &[u8],
     tag: &[u8],
@@ -215,53 +223,26 @@ fn open_in(
     scratch: &mut [u8],
 ) -> Done
     requires { ⌜ Ready (now t) (now w) (now powers) m × Sizes (length (now x)) (length (now out)) (length (now scratch)) (length (now tag)) ⌝ }
-    ensures { λ r. ⌜ openOutcome (λ P. P) (opened (schemeOf (now (w .entry)) (now (powers .entry))) (value (m .tweak)) (sideOf side) (now (tag .entry)) (now (x .entry))) (now (out .entry)) ≡ (doneNumber r, now (out .exit)) ⌝ }
+    ensures { λ r. ⌜ openedAs wanted (schemeOf (now (w .entry)) (now (powers .entry))) (value (m .tweak)) side (now (x .entry)) (now (tag .entry)) (now (out .entry)) ≡ (doneNumber r, now (out .exit)) ⌝ }
 {
     if verdict::opens(t, w, powers, m, side, x, tag, scratch) {
-        block::copy(&scratch[..], out);
-        return Done::Done;
+        match wanted {
+            Wanted::Plaintext => {
+                block::copy(&scratch[..], out);
+                return Done::Done;
+            }
+            Wanted::Opposite => {
+                let g = block::load(tag, 0);
+                mode::transform(t, w, m.beta, sealing_opposite(side), g, &scratch[..], out);
+                return Done::Done;
+            }
+        }
     }
     Done::Refused(Refusal::NoneFits)
 }
 
-// Like `open_in`, and writes the opposite side as the plaintext seals.
-fn rebuild_in(
-    t: &Table,
-    w: &[u32],
-    powers: &[u64; 18],
-    m: Context,
-    side: u32,
-    x: &[u8],
-    tag: &[u8],
-    out: &mut [u8],
-    scratch: &mut [u8],
-) -> Done
-    requires { ⌜ Ready (now t) (now w) (now powers) m × Sizes (length (now x)) (length (now out)) (length (now scratch)) (length (now tag)) ⌝ }
-    ensures { λ r. ⌜ openOutcome (λ P. on (schemeOf (now (w .entry)) (now (powers .entry)) .sealed (value (m .tweak)) P) (placeOf (otherSide (sideOf side)))) (opened (schemeOf (now (w .entry)) (now (powers .entry))) (value (m .tweak)) (sideOf side) (now (tag .entry)) (now (x .entry))) (now (out .entry)) ≡ (doneNumber r, now (out .exit)) ⌝ }
-{
-    if verdict::opens(t, w, powers, m, side, x, tag, scratch) {
-        let g = block::load(tag, 0);
-        mode::transform(t, w, m.beta, sealing_opposite(side), g, &scratch[..], out);
-        return Done::Done;
-    }
-    Done::Refused(Refusal::NoneFits)
-}
-
-fn open_checked(key: &[u8], address: u64, side: u32, x: &[u8], tag: &[u8], out: &mut [u8]) -> Done
-    requires { ⌜ (length (now key) ≡ 32) × Sizes (length (now x)) (length (now out)) (length (now out)) (length (now tag)) ⌝ }
-    ensures { λ r. ⌜ openOutcome (λ P. P) (opened (scheme (J.key (now (key .entry)))) (tweak address) (sideOf side) (now (tag .entry)) (now (x .entry))) (now (out .entry)) ≡ (doneNumber r, now (out .exit)) ⌝ }
-{
-    let t = aes::table();
-    let k = mode::prepare(&t, key);
-    let w = k.words;
-    let powers = k.powers;
-    let m = verdict::context(k.alpha, k.beta, address);
-    let s = x.len();
-    let mut scratch = [0u8; 4096];
-    open_in(&t, &w, &powers, m, side, x, tag, out, &mut scratch[..s])
-}
-
-fn rebuild_checked(
+fn open_checked(
+    wanted: Wanted,
     key: &[u8],
     address: u64,
     side: u32,
@@ -270,7 +251,7 @@ fn rebuild_checked(
     out: &mut [u8],
 ) -> Done
     requires { ⌜ (length (now key) ≡ 32) × Sizes (length (now x)) (length (now out)) (length (now out)) (length (now tag)) ⌝ }
-    ensures { λ r. ⌜ openOutcome (λ P. on (sealed (J.key (now (key .entry))) address P) (placeOf (otherSide (sideOf side)))) (opened (scheme (J.key (now (key .entry)))) (tweak address) (sideOf side) (now (tag .entry)) (now (x .entry))) (now (out .entry)) ≡ (doneNumber r, now (out .exit)) ⌝ }
+    ensures { λ r. ⌜ openedAs wanted (scheme (J.key (now (key .entry)))) (tweak address) side (now (x .entry)) (now (tag .entry)) (now (out .entry)) ≡ (doneNumber r, now (out .exit)) ⌝ }
 {
     let t = aes::table();
     let k = mode::prepare(&t, key);
@@ -279,27 +260,49 @@ fn rebuild_checked(
     let m = verdict::context(k.alpha, k.beta, address);
     let s = x.len();
     let mut scratch = [0u8; 4096];
-    rebuild_in(&t, &w, &powers, m, side, x, tag, out, &mut scratch[..s])
+    open_in(
+        &t,
+        &w,
+        &powers,
+        m,
+        wanted,
+        side,
+        x,
+        tag,
+        out,
+        &mut scratch[..s],
+    )
+}
+
+// Open and rebuild, which differ in what they write.
+fn open_as(
+    wanted: Wanted,
+    key: &[u8],
+    address: u64,
+    side: u32,
+    x: &[u8],
+    tag: &[u8],
+    out: &mut [u8],
+) -> Done
+    ensures { λ r. ⌜ openAs wanted (J.key (now (key .entry))) address side (now (x .entry)) (now (tag .entry)) (now (out .entry)) ≡ (doneNumber r, now (out .exit)) ⌝ }
+{
+    let checked = check_open(key, x.len(), out.len(), tag.len(), side);
+    match checked {
+        Done::Done => open_checked(wanted, key, address, side, x, tag, out),
+        Done::Refused(r) => Done::Refused(r),
+    }
 }
 
 // Gives the one plaintext that fits the tag and the sector x of a side: 0 is local, 1 remote.
 pub fn open(key: &[u8], address: u64, side: u32, x: &[u8], tag: &[u8], out: &mut [u8]) -> Done
     ensures { λ r. ⌜ openCall (J.key (now (key .entry))) address side (now (x .entry)) (now (tag .entry)) (now (out .entry)) ≡ (doneNumber r, now (out .exit)) ⌝ }
 {
-    let checked = check_open(key, x.len(), out.len(), tag.len(), side);
-    match checked {
-        Done::Done => open_checked(key, address, side, x, tag, out),
-        Done::Refused(r) => Done::Refused(r),
-    }
+    open_as(Wanted::Plaintext, key, address, side, x, tag, out)
 }
 
 // Writes the opposite side from the sector x of a side and the tag.
 pub fn rebuild(key: &[u8], address: u64, side: u32, x: &[u8], tag: &[u8], out: &mut [u8]) -> Done
     ensures { λ r. ⌜ rebuildCall (J.key (now (key .entry))) address side (now (x .entry)) (now (tag .entry)) (now (out .entry)) ≡ (doneNumber r, now (out .exit)) ⌝ }
 {
-    let checked = check_open(key, x.len(), out.len(), tag.len(), side);
-    match checked {
-        Done::Done => rebuild_checked(key, address, side, x, tag, out),
-        Done::Refused(r) => Done::Refused(r),
-    }
+    open_as(Wanted::Opposite, key, address, side, x, tag, out)
 }

@@ -1,53 +1,17 @@
-use mathlib.Core.Path.{ap, _∙_}
-use mathlib.Core.List.{_++_}
-use lib.ListN.{length}
-use Rattle.verdict.specs.Answers.{doneOption, keyRules}
-use Rattle.verdict.specs.Judging.{key}
-use Rattle.sector.specs.Calls.{sizeRules, sideRules}
-use Rattle.verdict.proofs.Rules.{none-left}
-use Rattle.sector.proofs.Checks.{accepted}
-use Rattle.sector.proofs.Public.{open-passes, open-refuses}
+use Rattle.sector.specs.Calls.{openCall}
 use borrow.Author.Needs.{needs}
 use Rattle.sector.proofs.open.Statement.{statement}
 use Rattle.sector.proofs.open.Tie as tie
 
-check-open-requires : tie.Need-check-open-requires
-check-open-requires c κs = search needs
-
-enum-told : tie.Need-enum-told
-enum-told c = search needs
-
-open-checked-requires : tie.Need-open-checked-requires
-open-checked-requires c κs =
-    let a = c .before .before .before .before .before .before .before .before .args in
-    accepted (a .key .now) (length (a .x .now)) (length (a .out .now)) (length (a .out .now)) (length (a .tag .now))
-    (none-left (sideRules (a .side)) (keyRules (key (a .key .now)) ++ sizeRules (length (a .x .now)) (length (a .out .now)) (length (a .out .now)) (length (a .tag .now))) (c .before .before .before .check-open .ensures ∙ ap doneOption (c .before .enum-told .given .1)))
-
-enum-known-checked : tie.Need-enum-known-checked
-enum-known-checked c = search needs
+open-as-requires : tie.Need-open-as-requires
+open-as-requires c κs = search needs
 
 same-length : tie.Need-same-length
 same-length c = search needs
 
 returns : tie.Need-returns
-returns c =
-    let a = c .before .before .before .before .before .before .before .before .before .before .before .args in
-    open-passes (a .key .now) (a .address) (a .side) (a .x .now) (a .tag .now) (a .out .now) (c .before .before .before .before .before .before .check-open .ensures ∙ ap doneOption (c .before .before .before .before .enum-told .given .1))
-    ∙ c .before .before .open-checked .ensures
-
-returns-2 : tie.Need-returns-2
-returns-2 c =
-    let a = c .before .before .before .before .before .before .before .before .args in
-    open-refuses (a .key .now) (a .address) (a .side) (a .x .now) (a .tag .now) (a .out .now) (c .before .before .before .check-open .ensures ∙ ap doneOption (c .before .checked .given .1))
+unfolding openCall
+returns c = c .before .before .open-as .ensures
 
 pub open-spec : {M : Type 1} → statement M
-open-spec =
-    tie.close
-    (tie.spec
-    check-open-requires
-    enum-told
-    open-checked-requires
-    enum-known-checked
-    same-length
-    returns
-    returns-2)
+open-spec = tie.close (tie.spec open-as-requires same-length returns)

@@ -1,8 +1,6 @@
-use mathlib.Core.Path.{sym, _∙_}
 use native.Mathlib.Omega.{arith}
 use lib.ListN.{length-take}
-use Rattle.verdict.proofs.Prepared.{ready-of}
-use Rattle.sector.proofs.Prepared.{opened-is}
+use Rattle.sector.proofs.Opening.{opening-ready, opened-is}
 use borrow.Author.Needs.{needs}
 use Rattle.sector.proofs.open_checked.Statement.{statement}
 use Rattle.sector.proofs.open_checked.Tie as tie
@@ -29,7 +27,10 @@ open-in-requires : tie.Need-open-in-requires
 open-in-requires c κs =
     let s = c .before .before .before .before .before .before .before .before .before .before .before .before .before .before .before in
     let z = s .pre .1 in
-    (ready-of (s .args .key .now) _ (c .before .before .before .before .before .before .before .before .prepare .ensures) _ (s .args .address) (c .before .before .before .before .before .context .ensures) (c .before .before .before .before .before .before .before .before .before .before .table .ensures), record { blocks = z .blocks; most = z .most; first = z .first; second = simp length-take (omega arith); tag-size = z .tag-size })
+    let table = c .before .before .before .before .before .before .before .before .before .before .table .ensures in
+    let prepared = c .before .before .before .before .before .before .before .before .prepare .ensures in
+    let context = c .before .before .before .before .before .context .ensures in
+    opening-ready (s .args .key .now) _ prepared _ (s .args .address) context table z (simp length-take (omega arith))
 
 same-length : tie.Need-same-length
 same-length c = search needs
@@ -37,7 +38,9 @@ same-length c = search needs
 returns : tie.Need-returns
 returns c =
     let a = c .before .before .before .before .before .before .before .before .before .before .before .before .before .before .before .before .before .before .before .args in
-    sym (opened-is (a .key .now) _ (c .before .before .before .before .before .before .before .before .before .before .before .before .prepare .ensures) _ (a .address) (c .before .before .before .before .before .before .before .before .before .context .ensures) (a .side) (a .x .now) (a .tag .now) (a .out .now)) ∙ c .before .before .before .open-in .ensures
+    let prepared = c .before .before .before .before .before .before .before .before .before .before .before .before .prepare .ensures in
+    let context = c .before .before .before .before .before .before .before .before .before .context .ensures in
+    opened-is (a .key .now) _ prepared _ (a .address) context (a .wanted) (a .side) (a .x .now) (a .tag .now) (a .out .now) (c .before .before .before .open-in .ensures)
 
 pub open-checked-spec : {M : Type 1} → statement M
 open-checked-spec =

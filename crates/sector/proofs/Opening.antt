@@ -1,0 +1,84 @@
+-- The answer of opening a side, from what the code has worked out, for open and rebuild alike. Assumes nothing.
+use mathlib.Core.Path.{_≡_, sym, ap, ap₂, _∙_}
+use mathlib.Core.Bool.{Bool, true, false}
+use mathlib.Core.List.{List, _++_}
+use mathlib.Core.Option.{Option, none, some}
+use Prim.Native.Nat.{ℕ}
+use lib.ListN.{length, take, drop}
+use Rattle.block.specs.Bytes.{fromBytes, blocksOf, same}
+use Rattle.block.specs.Value.{value}
+use Rattle.aes.specs.Aes.{cipherNumber}
+use Rattle.aes.specs.Columns.{roundTable}
+use Rattle.mode.specs.declared.Context.{Context}
+use Rattle.mode.specs.declared.Direction.{Direction}
+use Rattle.mode.specs.declared.Prepared.{Prepared}
+use Rattle.mode.specs.Prepared.{PreparedFor, Ready}
+use Rattle.mode.specs.Scheme.{Scheme, scheme}
+use Rattle.mode.specs.Sealing.{tweak, blockwise, pad}
+use Rattle.mode.specs.Transforms.{transformed}
+use Rattle.verdict.specs.declared.Done.{Done}
+use Rattle.verdict.specs.declared.Done.the-variants as D
+use Rattle.verdict.specs.declared.Refusal.{Refusal}
+use Rattle.verdict.specs.Answers.{firstOf, keyRules, refusalNumber, doneOption}
+use Rattle.verdict.specs.Judging.{key, schemeOf, sealingOf}
+use Rattle.verdict.specs.Verdict.{otherSide, sideOf, openSide}
+use Rattle.verdict.proofs.Opened.{Side-known, found, missing, rebuilt}
+use Rattle.verdict.proofs.Prepared.{ContextOf, scheme-is, ready-of}
+use Rattle.verdict.proofs.Rules.{none-left}
+use Rattle.sector.specs.declared.Wanted.{Wanted}
+use Rattle.sector.specs.declared.Wanted.the-variants.{Plaintext, Opposite}
+use Rattle.sector.specs.Calls.{sizeRules, sideRules, openOutcome}
+use Rattle.sector.specs.Opening.{wantedOf, openedAs, openAs}
+use Rattle.sector.specs.Sizes.{Sizes}
+use Rattle.sector.proofs.Checks.{accepted}
+use Rattle.sector.proofs.Public.{settle-some, settle-none}
+
+-- ---- the outcome, from what is found
+
+pub outcome-some : (f : List ℕ → List ℕ) (out : List ℕ) {r : Option (List ℕ)} {P o : List ℕ} → r ≡ some P → o ≡ f P → openOutcome f r out ≡ (0, o)
+outcome-some f out e eo = ap (λ r. openOutcome f r out) e ∙ ap (λ (Q : List ℕ). (0, Q)) (sym eo)
+
+pub outcome-none : (f : List ℕ → List ℕ) (out : List ℕ) {r : Option (List ℕ)} → r ≡ none → openOutcome f r out ≡ (5, out)
+outcome-none f out e = ap (λ r. openOutcome f r out) e
+
+-- ---- the sector x of the side with the number d, opened with the tag g to o, and b says whether o has the tag
+
+module _ (w p : List ℕ) (T d : ℕ) (x g : List ℕ) (known : Side-known x g) (out : List ℕ) {o : List ℕ} {b : Bool}
+    (tried : (o ≡ openSide (schemeOf w p) (sideOf d) g x) × (b ≡ same g (schemeOf w p .sealed T o .tag))) where
+  pub none-fits : (h : Wanted) → b ≡ false → openedAs h (schemeOf w p) T d x g out ≡ (5, out)
+  none-fits h n = outcome-none (wantedOf h (schemeOf w p) T (sideOf d)) out (missing w p T (sideOf d) x g known o b tried n)
+
+  pub gives-plaintext : {h : Wanted} → h ≡ Plaintext → b ≡ true → {a : List ℕ} → a ≡ o → openedAs h (schemeOf w p) T d x g out ≡ (0, a)
+  gives-plaintext eh y ea =
+      ap (λ (h : Wanted). openedAs h (schemeOf w p) T d x g out) eh ∙ outcome-some (λ P. P) out (found w p T (sideOf d) x g known o b tried y) ea
+
+  pub gives-opposite : {h : Wanted} → h ≡ Opposite → b ≡ true → {k : ℕ} {how : Direction} {a : List ℕ} → k ≡ fromBytes (take 16 (drop 0 g)) → how ≡ sealingOf (otherSide (sideOf d))
+      → a ≡ blockwise (λ j v. transformed how (pad (cipherNumber w) k j) v) 1 (blocksOf o) → openedAs h (schemeOf w p) T d x g out ≡ (0, a)
+  gives-opposite eh y {k} ek ehow ea =
+      ap (λ (h : Wanted). openedAs h (schemeOf w p) T d x g out) eh
+      ∙ outcome-some (wantedOf Opposite (schemeOf w p) T (sideOf d)) out (found w p T (sideOf d) x g known o b tried y) (rebuilt w p T (sideOf d) x g known o b tried y k ek ehow ea)
+
+-- ---- with a key prepared once
+
+module _ (k : List ℕ) (r : Prepared) (e : PreparedFor k r) (m : Context) (address : ℕ) (em : ContextOf r m address) where
+  pub opening-ready : {t : List ℕ} {s y g z : ℕ} → t ≡ roundTable → Sizes s y y g → z ≡ s → Ready t (r .words) (r .powers) m × Sizes s y z g
+  opening-ready et c ez = (ready-of k r e m address em et, record { blocks = c .blocks; most = c .most; first = c .first; second = ez; tag-size = c .tag-size })
+
+  pub opened-is : (h : Wanted) (d : ℕ) (x g out : List ℕ) {a : ℕ × List ℕ}
+      → openedAs h (schemeOf (r .words) (r .powers)) (value (m .tweak)) d x g out ≡ a → openedAs h (scheme (key k)) (tweak address) d x g out ≡ a
+  opened-is h d x g out ea = sym (ap₂ (λ (S : Scheme) (T : ℕ). openedAs h S T d x g out) (scheme-is k r e) (em .2)) ∙ ea
+
+-- ---- with the checks, of which c is the answer
+
+module _ (k : List ℕ) (address d : ℕ) (x g out : List ℕ) {c : Done}
+    (checked : firstOf (keyRules (key k) ++ (sizeRules (length x) (length out) (length out) (length g) ++ sideRules d)) ≡ doneOption c) where
+  pub open-accepted : c ≡ D.Done → (length k ≡ 32) × Sizes (length x) (length out) (length out) (length g)
+  open-accepted ok =
+      accepted k (length x) (length out) (length out) (length g)
+      (none-left (sideRules d) (keyRules (key k) ++ sizeRules (length x) (length out) (length out) (length g)) (checked ∙ ap doneOption ok))
+
+  pub open-passes : (h : Wanted) → c ≡ D.Done → {a : ℕ × List ℕ} → openedAs h (scheme (key k)) (tweak address) d x g out ≡ a → openAs h (key k) address d x g out ≡ a
+  open-passes h ok ea = settle-none (openedAs h (scheme (key k)) (tweak address) d x g out) out (checked ∙ ap doneOption ok) ∙ ea
+
+  pub open-refuses : (h : Wanted) {f : Refusal} → c ≡ D.Refused f → openAs h (key k) address d x g out ≡ (refusalNumber f, out)
+  open-refuses h refused = settle-some (openedAs h (scheme (key k)) (tweak address) d x g out) out (checked ∙ ap doneOption refused)
