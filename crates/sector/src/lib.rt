@@ -42,11 +42,9 @@ fn check_sizes(s: usize, x: usize, y: usize, g: usize) -> Done
 fn check(key: &[u8], s: usize, x: usize, y: usize, g: usize) -> Done
     ensures { λ r. ⌜ firstOf (keyRules (J.key (now (key .entry))) ++ sizeRules s x y g) ≡ doneOption r ⌝ }
 {
-    let checked = verdict::check_key(key);
-    match checked {
-        Done::Done => check_sizes(s, x, y, g),
-        Done::Refused(r) => Done::Refused(r),
-    }
+    let keyed = verdict::check_key(key);
+    let sized = check_sizes(s, x, y, g);
+    verdict::first_refusal(keyed, sized)
 }
 
 fn judge_checked(
@@ -184,23 +182,26 @@ fn sealing_opposite(side: u32) -> Direction
     }
 }
 
+// Refusal 4.
+fn check_side(side: u32) -> Done
+    ensures { λ r. ⌜ firstOf (sideRules side) ≡ doneOption r ⌝ }
+{
+    if side == 0 {
+        return Done::Done;
+    }
+    if side == 1 {
+        return Done::Done;
+    }
+    Done::Refused(Refusal::UnknownSide)
+}
+
 // Refusals 1 to 4 of open and rebuild.
 fn check_open(key: &[u8], s: usize, out: usize, g: usize, side: u32) -> Done
     ensures { λ r. ⌜ firstOf (keyRules (J.key (now (key .entry))) ++ (sizeRules s out out g ++ sideRules side)) ≡ doneOption r ⌝ }
 {
     let checked = check(key, s, out, out, g);
-    match checked {
-        Done::Done => if side == 0 {
-            Done::Done
-        } else {
-            if side == 1 {
-                Done::Done
-            } else {
-                Done::Refused(Refusal::UnknownSide)
-            }
-        },
-        Done::Refused(r) => Done::Refused(r),
-    }
+    let sided = check_side(side);
+    verdict::first_refusal(checked, sided)
 }
 
 // What opening a side writes: the plaintext, or the opposite side as the plaintext seals.

@@ -8,7 +8,7 @@ use native.Mathlib.Omega.{arith}
 use Rattle.verdict.specs.declared.Refusal.{Refusal}
 use Rattle.verdict.specs.declared.Done.{Done}
 use Rattle.verdict.specs.declared.Done.the-variants as D
-use Rattle.verdict.specs.Answers.{Rule, firstOf, refusalNumber, doneOption}
+use Rattle.verdict.specs.Answers.{Rule, firstOf, firstSome, refusalNumber, doneOption}
 
 -- ---- one rule
 
@@ -37,6 +37,14 @@ module _ (ys : List Rule) where
           → cond b (some (x .number)) (firstOf (xs ++ ys)) ≡ some n
       go true k r = k
       go false k r = r k
+
+  -- both lists, from a check of each
+  pub first-both : (xs : List Rule) {p q o : Option ℕ} → firstOf xs ≡ p → firstOf ys ≡ q → o ≡ firstSome p q → firstOf (xs ++ ys) ≡ o
+  first-both xs {p} e d h = go p e ∙ ap (firstSome p) d ∙ sym h
+    where
+      go : (p : Option ℕ) → firstOf xs ≡ p → firstOf (xs ++ ys) ≡ firstSome p (firstOf ys)
+      go none v = first-none xs v
+      go (some n) v = first-some xs v
 
   -- none of both is none of each
   pub none-left : (xs : List Rule) → firstOf (xs ++ ys) ≡ none → firstOf xs ≡ none

@@ -42,6 +42,11 @@ abbrev pub firstOf : List Rule → Option ℕ
 firstOf [] = none
 firstOf (r ∷ rs) = cond (r .condition) (some (r .number)) (firstOf rs)
 
+-- of two refusals in order, the first that there is
+abbrev pub firstSome : Option ℕ → Option ℕ → Option ℕ
+firstSome none o = o
+firstSome (some n) o = some n
+
 -- the list with one refusal that is already decided, or none
 abbrev pub rulesOf : Option ℕ → List Rule
 rulesOf none = []

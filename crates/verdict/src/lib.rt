@@ -12,7 +12,7 @@ ghost use Rattle.block.specs.Value.{value};
 ghost use Rattle.mode.specs.Prepared.{Ready};
 ghost use Rattle.mode.specs.Scheme.{isSize};
 ghost use Rattle.mode.specs.Sealing.{tweak};
-ghost use Rattle.verdict.specs.Answers.{firstOf, keyRules, doneOption, doubtNumber, refusalNumber, placeNamed, doneNumber, judgedNumber};
+ghost use Rattle.verdict.specs.Answers.{firstOf, firstSome, keyRules, doneOption, doubtNumber, refusalNumber, placeNamed, doneNumber, judgedNumber};
 ghost use Rattle.verdict.specs.Judging.{schemeOf, openingOf, Lent, judgedBy, SumFits, SumFails};
 ghost use Rattle.verdict.specs.Judging as J;
 ghost use Rattle.verdict.specs.Verdict.{sideOf, openSide};
@@ -124,6 +124,16 @@ pub fn check_key(key: &[u8]) -> Done
         Done::Done
     } else {
         Done::Refused(Refusal::KeyLength)
+    }
+}
+
+// The first refusal of two checks in this order.
+pub fn first_refusal(one: Done, other: Done) -> Done
+    ensures { λ r. ⌜ doneOption r ≡ firstSome (doneOption one) (doneOption other) ⌝ }
+{
+    match one {
+        Done::Done => other,
+        Done::Refused(f) => Done::Refused(f),
     }
 }
 

@@ -1,6 +1,7 @@
 use mathlib.Core.Path.{sym, ap, _∙_}
 use mathlib.Core.List.{List}
 use Prim.Native.Nat.{ℕ}
+use native.Mathlib.Omega.{arith}
 use lib.ListN.{length}
 use Rattle.verdict.specs.Answers.{doneOption}
 use Rattle.sector.proofs.Checks.{sizes}
@@ -19,7 +20,7 @@ xor-bytes-requires : tie.Need-xor-bytes-requires
 xor-bytes-requires c κs =
     let a = c .before .before .before .before .before .before .before .args in
     let z = sizes (length (a .local .now)) (length (a .remote .now)) (length (a .out .now)) 16 (c .before .before .before .check-sizes .ensures ∙ ap doneOption (c .before .enum-told .given .1)) in
-    (z .first, z .second)
+    (omega arith, omega arith)
 
 enum-known-checked : tie.Need-enum-known-checked
 enum-known-checked c = search needs
