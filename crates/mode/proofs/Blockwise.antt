@@ -32,7 +32,7 @@ blocksOf-below l h = blocks-below (length l / 16) l h
 abbrev pub itself : ℕ → ℕ → ℕ
 itself j v = v
 
-pub length-blockwise : (f : ℕ → ℕ → ℕ) (j : ℕ) (vs : List ℕ) → length (blockwise f j vs) ≡ 16 * length vs
+length-blockwise : (f : ℕ → ℕ → ℕ) (j : ℕ) (vs : List ℕ) → length (blockwise f j vs) ≡ 16 * length vs
 unfolding blockwise
 length-blockwise f j [] = omega arith
 length-blockwise f j (v ∷ vs) =

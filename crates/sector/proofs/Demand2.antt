@@ -85,6 +85,7 @@ module _ (k : Key) (s : ℕ) (ek : isKey k ≡ true) (es : isSize s ≡ true) wh
       let e = plain .long in
       seal-passes (k .bytes) address P out
       (keyed-pass k (length P) (length (out .local)) (length (out .remote)) (length (out .tag)) ek (ap isSize e ∙ es) (long local ∙ sym e) (long remote ∙ sym e) (long tag))
+      refl refl
 
   -- ---- judge
 
@@ -94,6 +95,7 @@ module _ (k : Key) (s : ℕ) (ek : isKey k ≡ true) (es : isSize s ≡ true) wh
         let e = σ .places local .long in
         judge-passes (k .bytes) address t out
         (keyed-pass k (length (t .local)) (length (t .remote)) (length out) (length (t .tag)) ek (ap isSize e ∙ es) (σ .places remote .long ∙ sym e) (size ∙ sym e) (σ .places tag .long))
+        refl refl
 
     judged : (w : Verdict) → (judgeCall k address t out ≡ verdictOutcome w out) ↔ Means s S (tweak address) t w
     judged w =
@@ -204,7 +206,7 @@ module _ (k : Key) (s : ℕ) (ek : isKey k ≡ true) (es : isSize s ≡ true) wh
         let e = long local .long in
         combine-passes (t .local) (t .remote) out
         (sizes-pass (length (t .local)) (length (t .remote)) (length out) 16 (ap isSize e ∙ es) (long remote .long ∙ sym e) (size ∙ sym e) refl)
-        ∙ ap (λ (Q : List ℕ). (0, Q)) (lawful .sum (tweak address) P plain)
+        refl (sym (lawful .sum (tweak address) P plain))
 
 pub demand-2 : Demand2-whole
 demand-2 k s ek es = record {

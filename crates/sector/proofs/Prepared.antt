@@ -1,5 +1,5 @@
 -- What is worked out with a key prepared once is what the calls' definitions have under that key. Assumes nothing.
-use mathlib.Core.Path.{_≡_, ap₂, ap, _∙_}
+use mathlib.Core.Path.{_≡_, sym, ap₂, ap, _∙_}
 use mathlib.Core.List.{List, [], _++_, append-nil}
 use Prim.Native.Nat.{ℕ, _+_}
 use native.Mathlib.Nat.{le-of-eq}
@@ -23,8 +23,8 @@ module _ (k : List ℕ) (r : Prepared) (e : PreparedFor k r) (m : Context) (addr
   pub lent-of : {t : List ℕ} → t ≡ roundTable → (l g x out : List ℕ) → Sizes (length l) (length x) (length out) (length g) → Lent t (r .words) (r .powers) m l g x out
   lent-of et l g x out z = record { ready = ready-of k r e m address em et; blocks = z .blocks; most = z .most; tag-size = z .tag-size; remote-size = z .first; out-size = z .second }
 
-  pub judged-is : (l g x out : List ℕ) → judgedBy (r .words) (r .powers) m l g x out ≡ verdictOutcome (judge (scheme (key k)) (tweak address) (triple l g x)) out
-  judged-is l g x out = ap₂ (λ (S : Scheme) (T : ℕ). verdictOutcome (judge S T (triple l g x)) out) (scheme-is k r e) (em .2)
+  pub judged-is : (l g x out : List ℕ) {a : ℕ × List ℕ} → judgedBy (r .words) (r .powers) m l g x out ≡ a → verdictOutcome (judge (scheme (key k)) (tweak address) (triple l g x)) out ≡ a
+  judged-is l g x out ea = sym (ap₂ (λ (S : Scheme) (T : ℕ). verdictOutcome (judge S T (triple l g x)) out) (scheme-is k r e) (em .2)) ∙ ea
 
   -- sealing with the prepared key
   pub scheme-sealed : (P : List ℕ) → schemeOf (r .words) (r .powers) .sealed (value (m .tweak)) P ≡ sealed (key k) address P

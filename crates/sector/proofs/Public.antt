@@ -1,5 +1,5 @@
 -- The calls' answers where the checks refuse, and where they pass. Assumes nothing.
-use mathlib.Core.Path.{_≡_, ap}
+use mathlib.Core.Path.{_≡_, sym, ap, _∙_}
 use mathlib.Core.List.{List, _++_}
 use mathlib.Core.Option.{Option, none, some}
 use Prim.Native.Nat.{ℕ}
@@ -7,7 +7,10 @@ use lib.ListN.{length}
 use Rattle.block.specs.Bytes.{xorBytes}
 use Rattle.mode.specs.Scheme.{scheme}
 use Rattle.mode.specs.Sealing.{Triple, tweak, sealed}
-use Rattle.verdict.specs.Answers.{firstOf, keyRules, settle}
+use Rattle.verdict.specs.declared.Done.{Done}
+use Rattle.verdict.specs.declared.Done.the-variants as D
+use Rattle.verdict.specs.declared.Refusal.{Refusal}
+use Rattle.verdict.specs.Answers.{firstOf, keyRules, settle, refusalNumber, doneOption}
 use Rattle.verdict.specs.Judging.{key, verdictOutcome}
 use Rattle.verdict.specs.Verdict.{judge}
 use Rattle.sector.specs.Calls.{sizeRules, sealCall, judgeCall, combineCall}
@@ -18,40 +21,33 @@ settle-some after before e = ap (λ o. settle o after before) e
 pub settle-none : {A : Type 0} {o : Option ℕ} (after : ℕ × A) (before : A) → o ≡ none → settle o after before ≡ after
 settle-none after before e = ap (λ o. settle o after before) e
 
--- ---- judge, seal and combine
+-- ---- c is the answer of the checks
 
-module _ (k : List ℕ) (address : ℕ) (t : Triple) (out : List ℕ) where
-  abbrev rules : Option ℕ
-  rules = firstOf (keyRules (key k) ++ sizeRules (length (t .local)) (length (t .remote)) (length out) (length (t .tag)))
-
-  pub judge-refuses : {n : ℕ} → rules ≡ some n → judgeCall (key k) address t out ≡ (n, out)
+module _ (k : List ℕ) (address : ℕ) (t : Triple) (out : List ℕ) {c : Done}
+    (checked : firstOf (keyRules (key k) ++ sizeRules (length (t .local)) (length (t .remote)) (length out) (length (t .tag))) ≡ doneOption c) where
+  pub judge-passes : c ≡ D.Done → {a : ℕ × List ℕ} → verdictOutcome (judge (scheme (key k)) (tweak address) t) out ≡ a → judgeCall (key k) address t out ≡ a
   unfolding judgeCall
-  judge-refuses e = settle-some (verdictOutcome (judge (scheme (key k)) (tweak address) t) out) out e
+  judge-passes ok ea = settle-none (verdictOutcome (judge (scheme (key k)) (tweak address) t) out) out (checked ∙ ap doneOption ok) ∙ ea
 
-  pub judge-passes : rules ≡ none → judgeCall (key k) address t out ≡ verdictOutcome (judge (scheme (key k)) (tweak address) t) out
+  pub judge-refuses : {f : Refusal} → c ≡ D.Refused f → judgeCall (key k) address t out ≡ (refusalNumber f, out)
   unfolding judgeCall
-  judge-passes e = settle-none (verdictOutcome (judge (scheme (key k)) (tweak address) t) out) out e
+  judge-refuses refused = settle-some (verdictOutcome (judge (scheme (key k)) (tweak address) t) out) out (checked ∙ ap doneOption refused)
 
-module _ (k : List ℕ) (address : ℕ) (P : List ℕ) (out : Triple) where
-  abbrev seal-rules : Option ℕ
-  seal-rules = firstOf (keyRules (key k) ++ sizeRules (length P) (length (out .local)) (length (out .remote)) (length (out .tag)))
-
-  pub seal-refuses : {n : ℕ} → seal-rules ≡ some n → sealCall (key k) address P out ≡ (n, out)
+module _ (k : List ℕ) (address : ℕ) (P : List ℕ) (out : Triple) {c : Done}
+    (checked : firstOf (keyRules (key k) ++ sizeRules (length P) (length (out .local)) (length (out .remote)) (length (out .tag))) ≡ doneOption c) where
+  pub seal-passes : c ≡ D.Done → {t : Triple} → t ≡ sealed (key k) address P → sealCall (key k) address P out ≡ (0, t)
   unfolding sealCall
-  seal-refuses e = settle-some (0, sealed (key k) address P) out e
+  seal-passes ok et = settle-none (0, sealed (key k) address P) out (checked ∙ ap doneOption ok) ∙ ap (λ (t : Triple). (0, t)) (sym et)
 
-  pub seal-passes : seal-rules ≡ none → sealCall (key k) address P out ≡ (0, sealed (key k) address P)
+  pub seal-refuses : {f : Refusal} → c ≡ D.Refused f → sealCall (key k) address P out ≡ (refusalNumber f, out)
   unfolding sealCall
-  seal-passes e = settle-none (0, sealed (key k) address P) out e
+  seal-refuses refused = settle-some (0, sealed (key k) address P) out (checked ∙ ap doneOption refused)
 
-module _ (x y out : List ℕ) where
-  abbrev combine-rules : Option ℕ
-  combine-rules = firstOf (sizeRules (length x) (length y) (length out) 16)
-
-  pub combine-refuses : {n : ℕ} → combine-rules ≡ some n → combineCall x y out ≡ (n, out)
+module _ (x y out : List ℕ) {c : Done} (checked : firstOf (sizeRules (length x) (length y) (length out) 16) ≡ doneOption c) where
+  pub combine-passes : c ≡ D.Done → {o : List ℕ} → o ≡ xorBytes x y → combineCall x y out ≡ (0, o)
   unfolding combineCall
-  combine-refuses e = settle-some (0, xorBytes x y) out e
+  combine-passes ok eo = settle-none (0, xorBytes x y) out (checked ∙ ap doneOption ok) ∙ ap (λ (o : List ℕ). (0, o)) (sym eo)
 
-  pub combine-passes : combine-rules ≡ none → combineCall x y out ≡ (0, xorBytes x y)
+  pub combine-refuses : {f : Refusal} → c ≡ D.Refused f → combineCall x y out ≡ (refusalNumber f, out)
   unfolding combineCall
-  combine-passes e = settle-none (0, xorBytes x y) out e
+  combine-refuses refused = settle-some (0, xorBytes x y) out (checked ∙ ap doneOption refused)

@@ -23,7 +23,7 @@ eqPlace remote local = ⊥
 eqPlace remote tag = ⊥
 eqPlace remote remote = Unit {0}
 
-pub diff : (p q : Place) → (eqPlace p q → ⊥) → p ≡ q → ⊥
+diff : (p q : Place) → (eqPlace p q → ⊥) → p ≡ q → ⊥
 diff p q n e = n (subst (λ (r : Place). eqPlace p r) e (self p))
   where
     self : (r : Place) → eqPlace r r
@@ -45,7 +45,7 @@ same-place remote remote = inl refl
 pub local-tag : local ≡ tag → ⊥
 local-tag = diff local tag (λ x. x)
 
-pub local-remote : local ≡ remote → ⊥
+local-remote : local ≡ remote → ⊥
 local-remote = diff local remote (λ x. x)
 
 pub tag-remote : tag ≡ remote → ⊥

@@ -95,42 +95,41 @@ module _ (w p : List ℕ) (m : Context) (l g r : List ℕ) (known : Known l g r)
   answer : (out : List ℕ) {v : Verdict} → judge S T t ≡ v → judgedBy w p m l g r out ≡ verdictOutcome v out
   answer out e = ap (λ (v : Verdict). verdictOutcome v out) e
 
-  -- the remote side that a plaintext seals to, compared
-  pub remote-test : (P o : List ℕ) (k : ℕ) {x : Bool} → k ≡ tagBlock (cipherNumber w) (keyOf p) T P
-      → o ≡ blockwise (λ j v. transformed SealRemote (pad (cipherNumber w) k j) v) 1 (blocksOf P) → x ≡ same r o → x ≡ fits S T t remote P
-  unfolding fits dcm sealedBy sides remoteBlock
-  remote-test P o k ek eo ex = ex ∙ ap (same r) (eo ∙ ap (λ (n : ℕ). blockwise (remoteBlock (cipherNumber w) n) 1 (blocksOf P)) ek)
-
-  -- its tag, compared
-  pub tag-test : (P : List ℕ) (k n : ℕ) {y : Bool} → k ≡ tagBlock (cipherNumber w) (keyOf p) T P → n ≡ fromBytes (take 16 (drop 0 g)) → y ≡ eqb k n → y ≡ fits S T t tag P
-  unfolding fits
-  tag-test P k n ek en ey = tag-compared w p T g (known .tag-size) (known .bytes-g) P k n ek en ey
-
-  pub sum-fits : (sum : List ℕ) {x y : Bool} → sum ≡ xorBytes l r → x ≡ fits S T t remote sum → y ≡ fits S T t tag sum → x ≡ true → y ≡ false → SumFits w p m l g r sum
-  sum-fits sum es ex ey tx ny = record { is-sum = es; fits-remote = sym ex ∙ tx; fits-no-tag = sym ey ∙ ny }
-
-  pub sum-fails : (sum : List ℕ) {x : Bool} → sum ≡ xorBytes l r → x ≡ fits S T t remote sum → x ≡ false → SumFails w p m l g r
-  unfolding SumFails
-  sum-fails sum es ex nx = ap (fits S T t remote) (sym es) ∙ sym ex ∙ nx
-
   -- the sum is a candidate
   sum-is : (sum : List ℕ) → sum ≡ xorBytes l r → sum ≡ candidate S T t tag
   unfolding candidate
   sum-is sum e = e
 
+  -- what the code works out of the sum local ⊕ remote: its tag k, its remote side o, and whether that is the remote sector
+  module _ {sum o : List ℕ} {k : ℕ} {x : Bool} (es : sum ≡ xorBytes l r) (ek : k ≡ tagBlock (cipherNumber w) (keyOf p) T sum)
+      (eo : o ≡ blockwise (λ j v. transformed SealRemote (pad (cipherNumber w) k j) v) 1 (blocksOf sum)) (ex : x ≡ same r o) where
+    remote-test : x ≡ fits S T t remote sum
+    unfolding fits dcm sealedBy sides remoteBlock
+    remote-test = ex ∙ ap (same r) (eo ∙ ap (λ (n : ℕ). blockwise (remoteBlock (cipherNumber w) n) 1 (blocksOf sum)) ek)
+
+    pub sum-fails : x ≡ false → SumFails w p m l g r
+    unfolding SumFails
+    sum-fails nx = ap (fits S T t remote) (sym es) ∙ sym remote-test ∙ nx
+
+    -- it is: the tag k against the one lent
+    module _ {n : ℕ} {y : Bool} (en : n ≡ fromBytes (take 16 (drop 0 g))) (ey : y ≡ eqb k n) (tx : x ≡ true) where
+      tag-test : y ≡ fits S T t tag sum
+      unfolding fits
+      tag-test = tag-compared w p T g (known .tag-size) (known .bytes-g) sum k n ek en ey
+
+      pub sum-fits : y ≡ false → SumFits w p m l g r sum
+      sum-fits ny = record { is-sum = es; fits-remote = sym remote-test ∙ tx; fits-no-tag = sym tag-test ∙ ny }
+
+      pub sum-whole : y ≡ true → (out : List ℕ) {a : List ℕ} → a ≡ sum → judgedBy w p m l g r out ≡ (0, a)
+      sum-whole ty out ea =
+          let c = sum-is sum es in
+          answer out
+          (cases.is-whole (length l) S lawful T t sector
+          (subst (λ (Q : List ℕ). Fits S T t remote Q) c (fits-Fits S T t remote sum (sym remote-test ∙ tx)))
+          (subst (λ (Q : List ℕ). Fits S T t tag Q) c (fits-Fits S T t tag sum (sym tag-test ∙ ty))))
+          ∙ ap (λ (Q : List ℕ). (0, Q)) (sym (ea ∙ c))
+
   module _ (out : List ℕ) where
-    -- ---- the sum fits all three places
-
-    pub all-fit : (sum : List ℕ) {x y : Bool} → sum ≡ xorBytes l r → x ≡ fits S T t remote sum → y ≡ fits S T t tag sum → x ≡ true → y ≡ true
-        → {o : List ℕ} → o ≡ sum → judgedBy w p m l g r out ≡ (0, o)
-    all-fit sum es ex ey tx ty eo =
-        let c = sum-is sum es in
-        answer out
-        (cases.is-whole (length l) S lawful T t sector
-        (subst (λ (Q : List ℕ). Fits S T t remote Q) c (fits-Fits S T t remote sum (sym ex ∙ tx)))
-        (subst (λ (Q : List ℕ). Fits S T t tag Q) c (fits-Fits S T t tag sum (sym ey ∙ ty))))
-        ∙ ap (λ (Q : List ℕ). (0, Q)) (sym (eo ∙ c))
-
     -- ---- it fits the sides only
 
     module _ (sum : List ℕ) (f : SumFits w p m l g r sum) where

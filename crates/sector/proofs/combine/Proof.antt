@@ -1,6 +1,4 @@
-use mathlib.Core.Path.{sym, ap, _∙_}
-use mathlib.Core.List.{List}
-use Prim.Native.Nat.{ℕ}
+use mathlib.Core.Path.{ap, _∙_}
 use native.Mathlib.Omega.{arith}
 use lib.ListN.{length}
 use Rattle.verdict.specs.Answers.{doneOption}
@@ -31,13 +29,12 @@ same-length c = search needs
 returns : tie.Need-returns
 returns c =
     let a = c .before .before .before .before .before .before .before .before .before .before .args in
-    combine-passes (a .local .now) (a .remote .now) (a .out .now) (c .before .before .before .before .before .before .check-sizes .ensures ∙ ap doneOption (c .before .before .before .before .enum-told .given .1))
-    ∙ ap (λ (o : List ℕ). (0, o)) (sym (c .before .before .xor-bytes .ensures))
+    combine-passes (a .local .now) (a .remote .now) (a .out .now) (c .before .before .before .before .before .before .check-sizes .ensures) (c .before .before .before .before .enum-told .given .1) (c .before .before .xor-bytes .ensures)
 
 returns-2 : tie.Need-returns-2
 returns-2 c =
     let a = c .before .before .before .before .before .before .before .args in
-    combine-refuses (a .local .now) (a .remote .now) (a .out .now) (c .before .before .before .check-sizes .ensures ∙ ap doneOption (c .before .checked .given .1))
+    combine-refuses (a .local .now) (a .remote .now) (a .out .now) (c .before .before .before .check-sizes .ensures) (c .before .checked .given .1)
 
 pub combine-spec : {M : Type 1} → statement M
 combine-spec =

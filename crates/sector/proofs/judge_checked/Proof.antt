@@ -1,4 +1,3 @@
-use mathlib.Core.Path.{sym, _∙_}
 use native.Mathlib.Omega.{arith}
 use lib.ListN.{length-take}
 use Rattle.sector.proofs.Prepared.{lent-of, judged-is}
@@ -35,7 +34,10 @@ judge-in-requires c κs =
     let s = c .before .before .before .before .before .before .before .before .before .before .before .before .before .before .before .before .before in
     let a = s .args in
     let z = s .pre .1 in
-    let lent = lent-of (a .key .now) _ (c .before .before .before .before .before .before .before .before .before .prepare .ensures) _ (a .address) (c .before .before .before .before .before .before .context .ensures) (c .before .before .before .before .before .before .before .before .before .before .before .table .ensures) (a .local .now) (a .tag .now) (a .remote .now) (a .out .now) z in
+    let table = c .before .before .before .before .before .before .before .before .before .before .before .table .ensures in
+    let prepared = c .before .before .before .before .before .before .before .before .before .prepare .ensures in
+    let context = c .before .before .before .before .before .before .context .ensures in
+    let lent = lent-of (a .key .now) _ prepared _ (a .address) context table (a .local .now) (a .tag .now) (a .remote .now) (a .out .now) z in
     (lent, simp length-take (omega arith), simp length-take (omega arith))
 
 same-length : tie.Need-same-length
@@ -44,7 +46,9 @@ same-length c = search needs
 returns : tie.Need-returns
 returns c =
     let a = c .before .before .before .before .before .before .before .before .before .before .before .before .before .before .before .before .before .before .before .before .before .before .args in
-    sym (judged-is (a .key .now) _ (c .before .before .before .before .before .before .before .before .before .before .before .before .before .before .prepare .ensures) _ (a .address) (c .before .before .before .before .before .before .before .before .before .before .before .context .ensures) (a .local .now) (a .tag .now) (a .remote .now) (a .out .now)) ∙ c .before .before .before .before .judge-in .ensures
+    let prepared = c .before .before .before .before .before .before .before .before .before .before .before .before .before .before .prepare .ensures in
+    let context = c .before .before .before .before .before .before .before .before .before .before .before .context .ensures in
+    judged-is (a .key .now) _ prepared _ (a .address) context (a .local .now) (a .tag .now) (a .remote .now) (a .out .now) (c .before .before .before .before .judge-in .ensures)
 
 pub judge-checked-spec : {M : Type 1} → statement M
 judge-checked-spec =

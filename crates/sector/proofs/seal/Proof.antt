@@ -1,6 +1,5 @@
-use mathlib.Core.Path.{sym, ap, _∙_}
+use mathlib.Core.Path.{ap, _∙_}
 use lib.ListN.{length}
-use Rattle.mode.specs.Sealing.{Triple}
 use Rattle.verdict.specs.Answers.{doneOption}
 use Rattle.verdict.specs.Judging.{triple}
 use Rattle.sector.proofs.Checks.{accepted}
@@ -36,13 +35,12 @@ same-length-3 c = search needs
 returns : tie.Need-returns
 returns c =
     let a = c .before .before .before .before .before .before .before .before .before .before .before .before .before .before .before .before .before .before .args in
-    seal-passes (a .key .now) (a .address) (a .p .now) (triple (a .local .now) (a .tag .now) (a .remote .now)) (c .before .before .before .before .before .before .before .before .before .before .before .before .check .ensures ∙ ap doneOption (c .before .before .before .before .before .before .before .before .before .before .enum-told .given .1))
-    ∙ ap (λ (t : Triple). (0, t)) (sym (c .before .before .before .before .before .before .seal-checked .ensures))
+    seal-passes (a .key .now) (a .address) (a .p .now) (triple (a .local .now) (a .tag .now) (a .remote .now)) (c .before .before .before .before .before .before .before .before .before .before .before .before .check .ensures) (c .before .before .before .before .before .before .before .before .before .before .enum-told .given .1) (c .before .before .before .before .before .before .seal-checked .ensures)
 
 returns-2 : tie.Need-returns-2
 returns-2 c =
     let a = c .before .before .before .before .before .before .before .before .before .args in
-    seal-refuses (a .key .now) (a .address) (a .p .now) (triple (a .local .now) (a .tag .now) (a .remote .now)) (c .before .before .before .check .ensures ∙ ap doneOption (c .before .checked .given .1))
+    seal-refuses (a .key .now) (a .address) (a .p .now) (triple (a .local .now) (a .tag .now) (a .remote .now)) (c .before .before .before .check .ensures) (c .before .checked .given .1)
 
 pub seal-spec : {M : Type 1} → statement M
 seal-spec =

@@ -20,7 +20,10 @@ slice-aggregate-seal-in c = search needs
 seal-in-requires : tie.Need-seal-in-requires
 seal-in-requires c κs =
     let s = c .before .before .before .before .before .before .before .before .before .before .before .before .before .before .before .before .before in
-    (ready-of (s .args .key .now) _ (c .before .before .before .before .before .before .before .before .before .prepare .ensures) _ (s .args .address) (c .before .before .before .before .before .before .context .ensures) (c .before .before .before .before .before .before .before .before .before .before .before .table .ensures), s .pre .1)
+    let table = c .before .before .before .before .before .before .before .before .before .before .before .table .ensures in
+    let prepared = c .before .before .before .before .before .before .before .before .before .prepare .ensures in
+    let context = c .before .before .before .before .before .before .context .ensures in
+    (ready-of (s .args .key .now) _ prepared _ (s .args .address) context table, s .pre .1)
 
 same-length : tie.Need-same-length
 same-length c = search needs
@@ -34,7 +37,9 @@ same-length-3 c = search needs
 returns : tie.Need-returns
 returns c =
     let a = c .before .before .before .before .before .before .before .before .before .before .before .before .before .before .before .before .before .before .before .before .before .before .before .before .args in
-    c .before .before .before .before .before .before .seal-in .ensures ∙ scheme-sealed (a .key .now) _ (c .before .before .before .before .before .before .before .before .before .before .before .before .before .before .before .before .prepare .ensures) _ (a .address) (c .before .before .before .before .before .before .before .before .before .before .before .before .before .context .ensures) (a .p .now)
+    let prepared = c .before .before .before .before .before .before .before .before .before .before .before .before .before .before .before .before .prepare .ensures in
+    let context = c .before .before .before .before .before .before .before .before .before .before .before .before .before .context .ensures in
+    c .before .before .before .before .before .before .seal-in .ensures ∙ scheme-sealed (a .key .now) _ prepared _ (a .address) context (a .p .now)
 
 pub seal-checked-spec : {M : Type 1} → statement M
 seal-checked-spec =

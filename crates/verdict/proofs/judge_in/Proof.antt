@@ -1,6 +1,6 @@
 use mathlib.Core.Path.{sym, _∙_}
 use Rattle.block.proofs.Lists.{bytes-all}
-use Rattle.verdict.proofs.Judging.{Known, known-of, remote-test, tag-test, all-fit, sum-fits, sum-fails}
+use Rattle.verdict.proofs.Judging.{Known, known-of, sum-whole, sum-fits, sum-fails}
 use borrow.Author.Needs.{needs}
 use Rattle.verdict.proofs.judge_in.Statement.{statement}
 use Rattle.verdict.proofs.judge_in.Tie as tie
@@ -64,23 +64,14 @@ returns : tie.Need-returns
 returns c =
     let o = c .before .before .before .before .before .before .before .before .before in
     let a = start o .args in
-    let sum = o .before .before .before .before .before .before .before .before .before .before .before .xor-bytes .ensures in
-    let g = o .before .before .before .before .before .before .before .tag-block .ensures in
-    let sides = remote-test (a .w .now) (a .powers .now) (a .m) (a .local .now) (a .tag .now) (a .remote .now) (known o) _ _ _ g (o .before .before .before .before .transform .ensures) (o .same .ensures) in
-    let k = c .before .before .before .before .before .before .before .load .ensures in
-    let tag = tag-test (a .w .now) (a .powers .now) (a .m) (a .local .now) (a .tag .now) (a .remote .now) (known o) _ _ _ g k (c .before .before .before .before .before .before .equal .ensures) in
-    all-fit (a .w .now) (a .powers .now) (a .m) (a .local .now) (a .tag .now) (a .remote .now) (known o) (a .out .now) _ sum sides tag (c .before .before .before .before .before .before .before .before .if1 .taken) (c .before .before .before .before .before .if2 .taken) (c .before .before .copy .ensures)
+    sum-whole (a .w .now) (a .powers .now) (a .m) (a .local .now) (a .tag .now) (a .remote .now) (known o) (o .before .before .before .before .before .before .before .before .before .before .before .xor-bytes .ensures) (o .before .before .before .before .before .before .before .tag-block .ensures) (o .before .before .before .before .transform .ensures) (o .same .ensures) (c .before .before .before .before .before .before .before .load .ensures) (c .before .before .before .before .before .before .equal .ensures) (c .before .before .before .before .before .before .before .before .if1 .taken) (c .before .before .before .before .before .if2 .taken) (a .out .now) (c .before .before .copy .ensures)
 
 judge-fitting-sum-requires : tie.Need-judge-fitting-sum-requires
 judge-fitting-sum-requires c κs =
     let o = c .before .before .before .before .before .before .before in
     let a = start o .args in
-    let sum = o .before .before .before .before .before .before .before .before .before .before .before .xor-bytes .ensures in
-    let g = o .before .before .before .before .before .before .before .tag-block .ensures in
-    let sides = remote-test (a .w .now) (a .powers .now) (a .m) (a .local .now) (a .tag .now) (a .remote .now) (known o) _ _ _ g (o .before .before .before .before .transform .ensures) (o .same .ensures) in
-    let k = c .before .before .before .before .before .load .ensures in
-    let tag = tag-test (a .w .now) (a .powers .now) (a .m) (a .local .now) (a .tag .now) (a .remote .now) (known o) _ _ _ g k (c .before .before .before .before .equal .ensures) in
-    (start o .pre .0, o .before .before .before .before .transform .kept .1 .1 .1 .1 .1 .1 .0 ∙ start o .pre .2, sum-fits (a .w .now) (a .powers .now) (a .m) (a .local .now) (a .tag .now) (a .remote .now) (known o) _ sum sides tag (c .before .before .before .before .before .before .if1 .taken) (c .before .before .before .if2 .left))
+    let scratch-size = o .before .before .before .before .transform .kept .1 .1 .1 .1 .1 .1 .0 ∙ start o .pre .2 in
+    (start o .pre .0, scratch-size, sum-fits (a .w .now) (a .powers .now) (a .m) (a .local .now) (a .tag .now) (a .remote .now) (known o) (o .before .before .before .before .before .before .before .before .before .before .before .xor-bytes .ensures) (o .before .before .before .before .before .before .before .tag-block .ensures) (o .before .before .before .before .transform .ensures) (o .same .ensures) (c .before .before .before .before .before .load .ensures) (c .before .before .before .before .equal .ensures) (c .before .before .before .before .before .before .if1 .taken) (c .before .before .before .if2 .left))
 
 same-length-4 : tie.Need-same-length-4
 same-length-4 c = search needs
@@ -98,10 +89,9 @@ judge-failing-sum-requires : tie.Need-judge-failing-sum-requires
 judge-failing-sum-requires c κs =
     let o = c .before .before .before .before in
     let a = start o .args in
-    let sum = o .before .before .before .before .before .before .before .before .before .before .before .xor-bytes .ensures in
-    let g = o .before .before .before .before .before .before .before .tag-block .ensures in
-    let sides = remote-test (a .w .now) (a .powers .now) (a .m) (a .local .now) (a .tag .now) (a .remote .now) (known o) _ _ _ g (o .before .before .before .before .transform .ensures) (o .same .ensures) in
-    (start o .pre .0, o .before .before .before .before .before .before .before .before .before .before .before .xor-bytes .kept .1 .1 .0 ∙ start o .pre .1, o .before .before .before .before .transform .kept .1 .1 .1 .1 .1 .1 .0 ∙ start o .pre .2, sum-fails (a .w .now) (a .powers .now) (a .m) (a .local .now) (a .tag .now) (a .remote .now) (known o) _ sum sides (c .before .before .before .if1 .left))
+    let sum-size = o .before .before .before .before .before .before .before .before .before .before .before .xor-bytes .kept .1 .1 .0 ∙ start o .pre .1 in
+    let scratch-size = o .before .before .before .before .transform .kept .1 .1 .1 .1 .1 .1 .0 ∙ start o .pre .2 in
+    (start o .pre .0, sum-size, scratch-size, sum-fails (a .w .now) (a .powers .now) (a .m) (a .local .now) (a .tag .now) (a .remote .now) (known o) (o .before .before .before .before .before .before .before .before .before .before .before .xor-bytes .ensures) (o .before .before .before .before .before .before .before .tag-block .ensures) (o .before .before .before .before .transform .ensures) (o .same .ensures) (c .before .before .before .if1 .left))
 
 same-length-7 : tie.Need-same-length-7
 same-length-7 c = search needs
