@@ -1,3 +1,4 @@
 pub mod Tallies
 pub mod Surveying
+pub mod ByFitting
 pub mod SurveyFacts

@@ -30,12 +30,12 @@ use Rattle.verdict.proofs.Rules.{only-rule, none-left, none-right}
 use Rattle.survey.specs.declared.Counts.{Counts}
 use Rattle.history.specs.Answers.{isWhole, isDoubtful, isClashing, isLost}
 use Rattle.images.specs.Lent.{placesOf}
-use Rattle.survey.specs.Survey.{tally, listed, health, countsOf, written, Report, counted, refused, surveyRules, verdictAt, surveyed, surveyOutcome}
+use Rattle.survey.specs.Survey.{chosen, tally, listed, health, countsOf, written, Report, counted, refused, surveyRules, verdictAt, surveyed, surveyOutcome}
 use Rattle.survey.specs.Inner.{verdictBy, Tells, addIf, counting, CountsOne, ListsOne}
 use Rattle.history.specs.Volume.{isShape, volumeRules, mirror}
 use Rattle.history.proofs.Refusals.{Common, common}
 use Rattle.verdict.proofs.Numbers.{refusal-range, doubt-least, outcome-number}
-use Rattle.survey.proofs.Tallies.{tally-le, length-listed}
+use Rattle.survey.proofs.Tallies.{tally-next, tally-le, listed-next, length-listed}
 
 -- ---- one sector: what the code's answer tells of the verdict
 
@@ -132,7 +132,7 @@ surveys w old i c list e d z = record {
 
 module _ (w : ℕ → Verdict) (old : List ℕ) where
   pub surveys-none : Surveys w old 0 (record { whole = 0; doubtful = 0; clashing = 0; lost = 0; health = 0 }) old
-  unfolding tally listed
+  unfolding tally listed chosen
   surveys-none = surveys w old 0 _ old refl refl refl
 
   module _ (i : ℕ) where
@@ -141,12 +141,16 @@ module _ (w : ℕ → Verdict) (old : List ℕ) where
     entry v = let e : _ ≡ tally isWhole w i = ap (λ (x : Counts). x .whole) (v .counts) in omega (arith, length-listed w i)
 
     counts-next : {c d : Counts} → c ≡ countsOf w i 0 → d ≡ counting (w i) c → d ≡ countsOf w (suc i) 0
-    unfolding tally
-    counts-next e d = d ∙ ap (counting (w i)) e
+    counts-next e d = d ∙ ap (counting (w i)) e ∙ (λ j. record {
+      whole = sym (tally-next isWhole w i) j;
+      doubtful = sym (tally-next isDoubtful w i) j;
+      clashing = sym (tally-next isClashing w i) j;
+      lost = sym (tally-next isLost w i) j;
+      health = 0;
+    })
 
     list-next : length (listed w i) < length old → {list new : List ℕ} → list ≡ written w i old → new ≡ cond (isWhole (w i)) list (set list (length (listed w i)) i) → new ≡ written w (suc i) old
-    unfolding listed
-    list-next h {list} {new} e d = d ∙ go (isWhole (w i))
+    list-next h {list} {new} e d = d ∙ go (isWhole (w i)) ∙ ap (λ (x : List ℕ). x ++ drop (length x) old) (sym (listed-next w i))
       where
         l : List ℕ
         l = listed w i

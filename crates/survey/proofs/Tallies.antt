@@ -1,7 +1,7 @@
 -- Laws of the survey's counts, of its list and of the health. Assumes nothing.
 use mathlib.Core.Path.{_≡_, refl, sym, ap, _∙_}
 use mathlib.Core.Logic.{_⊎_, inl, inr, ⊎-elim, _↔_}
-use mathlib.Core.Bool.{Bool, true, false, cond}
+use mathlib.Core.Bool.{Bool, true, false, not, cond}
 use mathlib.Core.List.{List, [], _∷_, _++_, List·Memᴰ, List·Memᴰ·head, List·Memᴰ·not-nil, List·Memᴰ·append-cases, List·Memᴰ·eq-of-singleton, Memᴰ·append-left, Memᴰ·append-right}
 use Prim.Native.Nat.{ℕ, zero, suc, _+_, _*_, _/_, _<_, _≤_}
 use native.Mathlib.Decide.{ℕ-discrete, decLt}
@@ -12,105 +12,39 @@ use lib.Seq.{getD-at}
 use Rattle.block.proofs.Lists.{false-true, clash}
 use Rattle.verdict.specs.Verdict.{Verdict, whole, doubtful, lost, clashing}
 use Rattle.history.specs.Answers.{isWhole, isDoubtful, isClashing, isLost}
-use Rattle.survey.specs.Survey.{tally, listed, health, Rises}
+use Rattle.survey.specs.Survey.{chosen, tally, listed, health, Rises, Lists}
 use Rattle.survey.specs.Inner.{addIf}
 
--- ---- counts
+-- ---- the numbers that pass a test
 
-add-le : (b : Bool) {k n : ℕ} → k ≤ n → addIf b k ≤ suc n
-add-le true h = omega arith
-add-le false h = omega arith
-
-pub tally-le : {A : Type 0} (is : A → Bool) (w : ℕ → A) (n : ℕ) → tally is w n ≤ n
-unfolding tally
-tally-le is w zero = omega arith
-tally-le is w (suc n) = add-le (is (w n)) (tally-le is w n)
-
--- each verdict is counted once
-one-kind : (w : Verdict) (a b c d : ℕ) → addIf (isWhole w) a + addIf (isDoubtful w) b + addIf (isClashing w) c + addIf (isLost w) d ≡ suc (a + b + c + d)
-unfolding isWhole isDoubtful isClashing isLost
-one-kind (whole P) a b c d = omega arith
-one-kind (doubtful p P) a b c d = omega arith
-one-kind lost a b c d = omega arith
-one-kind clashing a b c d = omega arith
-
-pub all-counted : (w : ℕ → Verdict) (n : ℕ) → tally isWhole w n + tally isDoubtful w n + tally isClashing w n + tally isLost w n ≡ n
-unfolding tally
-all-counted w zero = refl
-all-counted w (suc n) = one-kind (w n) (tally isWhole w n) (tally isDoubtful w n) (tally isClashing w n) (tally isLost w n) ∙ ap suc (all-counted w n)
-
--- where every number passes, and only there, the count is n
-pub tally-all : {A : Type 0} (is : A → Bool) (w : ℕ → A) (n : ℕ) → ((i : ℕ) → i < n → is (w i) ≡ true) → tally is w n ≡ n
-unfolding tally
-tally-all is w zero h = refl
-tally-all is w (suc n) h =
-    ap (λ (b : Bool). addIf b (tally is w n)) (h n (omega arith)) ∙ ap suc (tally-all is w n (λ i lt. h i (omega arith)))
-
-pub tally-full : {A : Type 0} (is : A → Bool) (w : ℕ → A) (n : ℕ) → n ≤ tally is w n → (i : ℕ) → i < n → is (w i) ≡ true
-unfolding tally
-tally-full is w zero e i h = absurd (omega arith)
-tally-full is w (suc n) e i h = go (is (w n)) refl e (tally-full is w n) (ℕ-discrete i n)
+-- what is chosen is below n and passes,
+chosen-passes : (p : ℕ → Bool) (n i : ℕ) → List·Memᴰ i (chosen p n) → (i < n) × (p i ≡ true)
+unfolding chosen
+chosen-passes p zero i m = absurd (List·Memᴰ·not-nil m)
+chosen-passes p (suc n) i m = go (p n) refl m (chosen-passes p n i)
   where
-    go : (b : Bool) → is (w n) ≡ b → suc n ≤ addIf b (tally is w n) → (n ≤ tally is w n → (j : ℕ) → j < n → is (w j) ≡ true) → Dec (i ≡ n) → is (w i) ≡ true
-    go true d k r (yes z) = ap (λ (j : ℕ). is (w j)) z ∙ d
-    go true d k r (no z) = r (omega arith) i (omega arith)
-    go false d k r z = let m : tally is w n ≤ n = tally-le is w n in absurd (omega arith)
-
--- two tests that no number passes both
-pub apart : {A B : Type 0} (is : A → Bool) (it : B → Bool) (h : ℕ → A) (w : ℕ → B) (n : ℕ)
-    → ((i : ℕ) → i < n → is (h i) ≡ true → it (w i) ≡ false) → tally is h n + tally it w n ≤ n
-unfolding tally
-apart is it h w zero e = omega arith
-apart is it h w (suc n) e = go (is (h n)) (it (w n)) (e n (omega arith)) (apart is it h w n (λ i lt. e i (omega arith)))
-  where
-    go : (a b : Bool) → (a ≡ true → b ≡ false) → tally is h n + tally it w n ≤ n → addIf a (tally is h n) + addIf b (tally it w n) ≤ suc n
-    go true true d k = false-true (sym (d refl))
-    go true false d k = omega arith
-    go false true d k = omega arith
-    go false false d k = omega arith
-
--- ---- the list
-
-pub length-listed : (w : ℕ → Verdict) (n : ℕ) → length (listed w n) + tally isWhole w n ≡ n
-unfolding tally listed
-length-listed w zero = refl
-length-listed w (suc n) = go (isWhole (w n)) (length-listed w n)
-  where
-    go : (b : Bool) → length (listed w n) + tally isWhole w n ≡ n → length (cond b (listed w n) (listed w n ++ n ∷ [])) + addIf b (tally isWhole w n) ≡ suc n
-    go true e = omega arith
-    go false e = simp length-append (omega arith)
-
--- what is listed is below n and not whole,
-in-listed : (w : ℕ → Verdict) (n i : ℕ) → List·Memᴰ i (listed w n) → (i < n) × (isWhole (w i) ≡ false)
-unfolding listed
-in-listed w zero i m = absurd (List·Memᴰ·not-nil m)
-in-listed w (suc n) i m = go (isWhole (w n)) refl m (in-listed w n i)
-  where
-    later : (i < n) × (isWhole (w i) ≡ false) → (i < suc n) × (isWhole (w i) ≡ false)
+    later : (i < n) × (p i ≡ true) → (i < suc n) × (p i ≡ true)
     later x = (omega arith, x .1)
 
-    last : isWhole (w n) ≡ false → i ≡ n → (i < suc n) × (isWhole (w i) ≡ false)
-    last d e = (omega arith, ap (λ (j : ℕ). isWhole (w j)) e ∙ d)
+    last : p n ≡ true → i ≡ n → (i < suc n) × (p i ≡ true)
+    last d e = (omega arith, ap p e ∙ d)
 
-    go : (b : Bool) → isWhole (w n) ≡ b → List·Memᴰ i (cond b (listed w n) (listed w n ++ n ∷ [])) → (List·Memᴰ i (listed w n) → (i < n) × (isWhole (w i) ≡ false))
-        → (i < suc n) × (isWhole (w i) ≡ false)
-    go true d k r = later (r k)
-    go false d k r = ⊎-elim (λ a. later (r a)) (λ a. last d (List·Memᴰ·eq-of-singleton a)) (List·Memᴰ·append-cases (listed w n) k)
+    go : (b : Bool) → p n ≡ b → List·Memᴰ i (cond b (chosen p n ++ n ∷ []) (chosen p n)) → (List·Memᴰ i (chosen p n) → (i < n) × (p i ≡ true))
+        → (i < suc n) × (p i ≡ true)
+    go true d k r = ⊎-elim (λ a. later (r a)) (λ a. last d (List·Memᴰ·eq-of-singleton a)) (List·Memᴰ·append-cases (chosen p n) k)
+    go false d k r = later (r k)
 
--- and all of that is listed
-listed-in : (w : ℕ → Verdict) (n i : ℕ) → i < n → isWhole (w i) ≡ false → List·Memᴰ i (listed w n)
-unfolding listed
-listed-in w zero i h e = absurd (omega arith)
-listed-in w (suc n) i h e = go (isWhole (w n)) refl (ℕ-discrete i n) (λ lt. listed-in w n i lt e)
+-- and all of that is chosen
+passes-chosen : (p : ℕ → Bool) (n i : ℕ) → i < n → p i ≡ true → List·Memᴰ i (chosen p n)
+unfolding chosen
+passes-chosen p zero i h e = absurd (omega arith)
+passes-chosen p (suc n) i h e = go (p n) refl (ℕ-discrete i n) (λ lt. passes-chosen p n i lt e)
   where
-    go : (b : Bool) → isWhole (w n) ≡ b → Dec (i ≡ n) → (i < n → List·Memᴰ i (listed w n)) → List·Memᴰ i (cond b (listed w n) (listed w n ++ n ∷ []))
-    go true d (yes z) r = clash d (ap (λ (j : ℕ). isWhole (w j)) (sym z) ∙ e)
-    go true d (no z) r = r (omega arith)
-    go false d (yes z) r = Memᴰ·append-right (listed w n) (List·Memᴰ·head z)
-    go false d (no z) r = Memᴰ·append-left (n ∷ []) (r (omega arith))
-
-pub in-list : (w : ℕ → Verdict) (n i : ℕ) → List·Memᴰ i (listed w n) ↔ ((i < n) × (isWhole (w i) ≡ false))
-in-list w n i = (in-listed w n i, λ x. listed-in w n i (x .0) (x .1))
+    go : (b : Bool) → p n ≡ b → Dec (i ≡ n) → (i < n → List·Memᴰ i (chosen p n)) → List·Memᴰ i (cond b (chosen p n ++ n ∷ []) (chosen p n))
+    go true d (yes z) r = Memᴰ·append-right (chosen p n) (List·Memᴰ·head z)
+    go true d (no z) r = Memᴰ·append-left (n ∷ []) (r (omega arith))
+    go false d (yes z) r = clash e (ap p z ∙ d)
+    go false d (no z) r = r (omega arith)
 
 -- an entry of a list with one number more
 snoc-at : (l : List ℕ) (x j : ℕ) → j < length (l ++ x ∷ [])
@@ -124,15 +58,15 @@ snoc-at l x j h = go (decLt j (length l))
         let e : length l ≡ j = omega arith in
         inr (e, getD-at l x [] 0 j e)
 
-listed-below : (w : ℕ → Verdict) (n j : ℕ) → j < length (listed w n) → getD (listed w n) j 0 < n
-unfolding listed
-listed-below w zero j h = absurd (omega arith)
-listed-below w (suc n) j h = go (isWhole (w n)) h (listed-below w n j)
+chosen-below : (p : ℕ → Bool) (n j : ℕ) → j < length (chosen p n) → getD (chosen p n) j 0 < n
+unfolding chosen
+chosen-below p zero j h = absurd (omega arith)
+chosen-below p (suc n) j h = go (p n) h (chosen-below p n j)
   where
-    go : (b : Bool) → j < length (cond b (listed w n) (listed w n ++ n ∷ [])) → (j < length (listed w n) → getD (listed w n) j 0 < n)
-        → getD (cond b (listed w n) (listed w n ++ n ∷ [])) j 0 < suc n
-    go true k r = let z = r k in omega arith
-    go false k r = ⊎-elim (λ a. let z = r (a .0) in omega (arith, a .1)) (λ a. omega (arith, a .1)) (snoc-at (listed w n) n j k)
+    go : (b : Bool) → j < length (cond b (chosen p n ++ n ∷ []) (chosen p n)) → (j < length (chosen p n) → getD (chosen p n) j 0 < n)
+        → getD (cond b (chosen p n ++ n ∷ []) (chosen p n)) j 0 < suc n
+    go true k r = ⊎-elim (λ a. let z = r (a .0) in omega (arith, a .1)) (λ a. omega (arith, a .1)) (snoc-at (chosen p n) n j k)
+    go false k r = let z = r k in omega arith
 
 -- a list that rises and lies below x still rises with x behind it
 rises-snoc : (l : List ℕ) (x : ℕ) → Rises l → ((j : ℕ) → j < length l → getD l j 0 < x) → Rises (l ++ x ∷ [])
@@ -144,20 +78,120 @@ rises-snoc l x up below i j h k = ⊎-elim inside behind (snoc-at l x j k)
     behind : (length l ≡ j) × (getD (l ++ x ∷ []) j 0 ≡ x) → getD (l ++ x ∷ []) i 0 < getD (l ++ x ∷ []) j 0
     behind a = let lt : i < length l = omega (arith, a .0) in let z = below i lt in omega (arith, a .1, List·getD-append l (x ∷ []) 0 i lt)
 
-pub list-rises : (w : ℕ → Verdict) (n : ℕ) → Rises (listed w n)
-unfolding listed
-list-rises w zero = λ i j h k. absurd (omega arith)
-list-rises w (suc n) = go (isWhole (w n)) (list-rises w n)
+chosen-rises : (p : ℕ → Bool) (n : ℕ) → Rises (chosen p n)
+unfolding chosen
+chosen-rises p zero = λ i j h k. absurd (omega arith)
+chosen-rises p (suc n) = go (p n) (chosen-rises p n)
   where
-    go : (b : Bool) → Rises (listed w n) → Rises (cond b (listed w n) (listed w n ++ n ∷ []))
-    go true r = r
-    go false r = rises-snoc (listed w n) n r (listed-below w n)
+    go : (b : Bool) → Rises (chosen p n) → Rises (cond b (chosen p n ++ n ∷ []) (chosen p n))
+    go true r = rises-snoc (chosen p n) n r (chosen-below p n)
+    go false r = r
+
+-- the test passes the numbers that have a property
+pub chosen-lists : (P : ℕ → Type 0) (p : ℕ → Bool) (n : ℕ) → ((i : ℕ) → i < n → (p i ≡ true) ↔ P i) → Lists P n (chosen p n)
+chosen-lists P p n t = record {
+  exactly = λ i. (
+    λ m. let x = chosen-passes p n i m in (x .0, t i (x .0) .0 (x .1)),
+    λ x. passes-chosen p n i (x .0) (t i (x .0) .1 (x .1)),
+  );
+  rises = chosen-rises p n;
+}
+
+-- ---- counts
+
+pub tally-none : {A : Type 0} (is : A → Bool) (w : ℕ → A) → tally is w 0 ≡ 0
+unfolding tally chosen
+tally-none is w = refl
+
+length-next : (b : Bool) (l : List ℕ) (n : ℕ) → length (cond b (l ++ n ∷ []) l) ≡ addIf b (length l)
+length-next true l n = simp length-append (omega arith)
+length-next false l n = refl
+
+pub tally-next : {A : Type 0} (is : A → Bool) (w : ℕ → A) (n : ℕ) → tally is w (suc n) ≡ addIf (is (w n)) (tally is w n)
+unfolding tally chosen
+tally-next is w n = length-next (is (w n)) (chosen (λ i. is (w i)) n) n
+
+add-le : (b : Bool) {k n : ℕ} → k ≤ n → addIf b k ≤ suc n
+add-le true h = omega arith
+add-le false h = omega arith
+
+pub tally-le : {A : Type 0} (is : A → Bool) (w : ℕ → A) (n : ℕ) → tally is w n ≤ n
+tally-le is w zero = omega (arith, tally-none is w)
+tally-le is w (suc n) = rw tally-next (add-le (is (w n)) (tally-le is w n))
+
+-- each verdict is counted once
+one-kind : (w : Verdict) (a b c d : ℕ) → addIf (isWhole w) a + addIf (isDoubtful w) b + addIf (isClashing w) c + addIf (isLost w) d ≡ suc (a + b + c + d)
+unfolding isWhole isDoubtful isClashing isLost
+one-kind (whole P) a b c d = omega arith
+one-kind (doubtful p P) a b c d = omega arith
+one-kind lost a b c d = omega arith
+one-kind clashing a b c d = omega arith
+
+pub all-counted : (w : ℕ → Verdict) (n : ℕ) → tally isWhole w n + tally isDoubtful w n + tally isClashing w n + tally isLost w n ≡ n
+all-counted w zero = omega (arith, tally-none isWhole w, tally-none isDoubtful w, tally-none isClashing w, tally-none isLost w)
+all-counted w (suc n) =
+    rw (tally-next isWhole w n, tally-next isDoubtful w n, tally-next isClashing w n, tally-next isLost w n)
+    (one-kind (w n) (tally isWhole w n) (tally isDoubtful w n) (tally isClashing w n) (tally isLost w n) ∙ ap suc (all-counted w n))
+
+-- where every number passes, and only there, the count is n
+tally-all : {A : Type 0} (is : A → Bool) (w : ℕ → A) (n : ℕ) → ((i : ℕ) → i < n → is (w i) ≡ true) → tally is w n ≡ n
+tally-all is w zero h = tally-none is w
+tally-all is w (suc n) h =
+    tally-next is w n ∙ ap (λ (b : Bool). addIf b (tally is w n)) (h n (omega arith)) ∙ ap suc (tally-all is w n (λ i lt. h i (omega arith)))
+
+tally-full : {A : Type 0} (is : A → Bool) (w : ℕ → A) (n : ℕ) → n ≤ tally is w n → (i : ℕ) → i < n → is (w i) ≡ true
+tally-full is w zero e i h = absurd (omega arith)
+tally-full is w (suc n) e i h = go (is (w n)) refl (rw tally-next at e) (tally-full is w n) (ℕ-discrete i n)
+  where
+    go : (b : Bool) → is (w n) ≡ b → suc n ≤ addIf b (tally is w n) → (n ≤ tally is w n → (j : ℕ) → j < n → is (w j) ≡ true) → Dec (i ≡ n) → is (w i) ≡ true
+    go true d k r (yes z) = ap (λ (j : ℕ). is (w j)) z ∙ d
+    go true d k r (no z) = r (omega arith) i (omega arith)
+    go false d k r z = let m : tally is w n ≤ n = tally-le is w n in absurd (omega arith)
+
+-- two tests that no number passes both
+pub apart : {A B : Type 0} (is : A → Bool) (it : B → Bool) (h : ℕ → A) (w : ℕ → B) (n : ℕ)
+    → ((i : ℕ) → i < n → is (h i) ≡ true → it (w i) ≡ false) → tally is h n + tally it w n ≤ n
+apart is it h w zero e = omega (arith, tally-none is h, tally-none it w)
+apart is it h w (suc n) e =
+    rw (tally-next is h n, tally-next it w n)
+    (go (is (h n)) (it (w n)) (e n (omega arith)) (apart is it h w n (λ i lt. e i (omega arith))))
+  where
+    go : (a b : Bool) → (a ≡ true → b ≡ false) → tally is h n + tally it w n ≤ n → addIf a (tally is h n) + addIf b (tally it w n) ≤ suc n
+    go true true d k = false-true (sym (d refl))
+    go true false d k = omega arith
+    go false true d k = omega arith
+    go false false d k = omega arith
+
+-- ---- the list
+
+pub listed-next : (w : ℕ → Verdict) (n : ℕ) → listed w (suc n) ≡ cond (isWhole (w n)) (listed w n) (listed w n ++ n ∷ [])
+unfolding listed chosen
+listed-next w n = go (isWhole (w n))
+  where
+    l : List ℕ
+    l = chosen (λ i. not (isWhole (w i))) n
+
+    go : (b : Bool) → cond (not b) (l ++ n ∷ []) l ≡ cond b l (l ++ n ∷ [])
+    go true = refl
+    go false = refl
+
+pub listed-none : (w : ℕ → Verdict) → listed w 0 ≡ []
+unfolding listed chosen
+listed-none w = refl
+
+pub length-listed : (w : ℕ → Verdict) (n : ℕ) → length (listed w n) + tally isWhole w n ≡ n
+length-listed w zero = omega (arith, ap length (listed-none w), tally-none isWhole w)
+length-listed w (suc n) = rw (listed-next w n, tally-next isWhole w n) (go (isWhole (w n)) (length-listed w n))
+  where
+    go : (b : Bool) → length (listed w n) + tally isWhole w n ≡ n → length (cond b (listed w n) (listed w n ++ n ∷ [])) + addIf b (tally isWhole w n) ≡ suc n
+    go true e = omega arith
+    go false e = simp length-append (omega arith)
 
 -- ---- health
 
-pub health-most : (w : ℕ → Verdict) (n : ℕ) → 1 ≤ n → health (tally isWhole w n) n ≤ 1000
+pub health-most : (w : ℕ → Verdict) (n : ℕ) → health (tally isWhole w n) n ≤ 1000
 unfolding health
-health-most w n h = div-le-of-le-mul n (mul-le-mul-right 1000 (tally-le isWhole w n))
+health-most w n = div-le-of-le-mul n (mul-le-mul-right 1000 (tally-le isWhole w n))
 
 pub health-full : (w : ℕ → Verdict) (n : ℕ) → 1 ≤ n → (health (tally isWhole w n) n ≡ 1000) ↔ ((i : ℕ) → i < n → isWhole (w i) ≡ true)
 unfolding health

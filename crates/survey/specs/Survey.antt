@@ -2,16 +2,16 @@
 -- `SurveyFacts`, at the end, states what is proved of them, as `survey-facts`.
 use mathlib.Core.Path.{_≡_}
 use mathlib.Core.Logic.{_↔_}
-use mathlib.Core.Bool.{Bool, true, false, cond}
+use mathlib.Core.Bool.{Bool, true, false, not, cond}
 use mathlib.Core.List.{List, [], _∷_, _++_, List·Memᴰ}
-use mathlib.Core.Option.{none}
+use mathlib.Core.Option.{Option, none, some}
 use Prim.Native.Nat.{ℕ, zero, suc, _+_, _*_, _/_, _<_, _≤_}
 use lib.Dec.{ltb}
 use lib.ListN.{length, getD, drop}
 use Rattle.mode.specs.Sealing.{Triple, Key}
-use Rattle.mode.specs.Scheme.{Scheme}
+use Rattle.mode.specs.Scheme.{Place, Scheme}
 use Rattle.verdict.specs.Answers.{Rule, rule, firstOf, settleBy, refusalNumber}
-use Rattle.verdict.specs.Verdict.{Verdict, judge}
+use Rattle.verdict.specs.Verdict.{Verdict, whole, doubtful, lost, clashing, Means, judge}
 use Rattle.survey.specs.declared.Counts.{Counts}
 use Rattle.survey.specs.declared.Surveyed.{Surveyed}
 use Rattle.survey.specs.declared.Surveyed.the-variants.{Counted, Refused}
@@ -23,19 +23,22 @@ use Rattle.history.specs.Volume.{sectorOf, isShape, volumeRules, mirror}
 
 -- ---- counts and the list, from the verdict on each sector
 
--- how many of the numbers below n pass a test
-unfoldable pub tally : {A : Type 0} → (A → Bool) → (ℕ → A) → ℕ → ℕ
-tally is w zero = 0
-tally is w (suc n) = cond (is (w n)) (suc (tally is w n)) (tally is w n)
+-- the numbers below n that pass a test, in rising order
+unfoldable pub chosen : (ℕ → Bool) → ℕ → List ℕ
+chosen p zero = []
+chosen p (suc n) = cond (p n) (chosen p n ++ n ∷ []) (chosen p n)
 
--- the numbers below n whose sector is not whole, in rising order
+-- how many they are
+unfoldable pub tally : {A : Type 0} → (A → Bool) → (ℕ → A) → ℕ → ℕ
+tally is w n = length (chosen (λ i. is (w i)) n)
+
+-- the numbers of the sectors that are not whole
 unfoldable pub listed : (ℕ → Verdict) → ℕ → List ℕ
-listed w zero = []
-listed w (suc n) = cond (isWhole (w n)) (listed w n) (listed w n ++ n ∷ [])
+listed w n = chosen (λ i. not (isWhole (w i))) n
 
 -- of n sectors: the whole ones in thousandths, rounded down
 unfoldable pub health : ℕ → ℕ → ℕ
-health whole n = whole * 1000 / n
+health w n = w * 1000 / n
 
 -- the counts of the first n sectors, with this health
 abbrev pub countsOf : (ℕ → Verdict) → ℕ → ℕ → Counts
@@ -79,44 +82,79 @@ unfoldable pub surveyOutcome : Triple → Key → ℕ → ℕ → List ℕ → R
 surveyOutcome v k s n list =
     settleBy refused (firstOf (surveyRules k s n (isShape s n v) (length list))) (surveyed (verdictAt (mirror k) s v) n list) list
 
--- ---- what is proved
+-- ---- the same by fitting (document 01, "The verdict"), without judging
+
+-- sector i of the images v, under its address i
+module _ (k : Key) (s : ℕ) (v : Triple) where
+  abbrev pub Fitting : Verdict → ℕ → Type 0
+  Fitting w i = Means s (mirror k) i (sectorOf s i v) w
+
+  abbrev pub WholeAt : ℕ → Type 0
+  WholeAt i = (P : List ℕ) × Fitting (whole P) i
+
+  abbrev pub DoubtfulAt : ℕ → Type 0
+  DoubtfulAt i = (d : Place) × (P : List ℕ) × Fitting (doubtful d P) i
+
+  abbrev pub ClashingAt : ℕ → Type 0
+  ClashingAt i = Fitting clashing i
+
+  abbrev pub LostAt : ℕ → Type 0
+  LostAt i = Fitting lost i
 
 -- each entry is above those before it
 abbrev pub Rises : List ℕ → Type 0
 Rises l = (i j : ℕ) → i < j → j < length l → getD l i 0 < getD l j 0
 
+-- l has the numbers below n that have the property P, each once, and no others
+pub record Lists (P : ℕ → Type 0) (n : ℕ) (l : List ℕ) : Type 0 where
+  pub exactly : (i : ℕ) → List·Memᴰ i l ↔ ((i < n) × P i)
+  pub rises : Rises l
+
+-- m of the numbers below n have it
+abbrev pub Many : (ℕ → Type 0) → ℕ → ℕ → Type 0
+Many P n m = (l : List ℕ) × Lists P n l × (length l ≡ m)
+
+-- what the counts c, and the list `after` of a list that was `before`, say of n sectors of the images v
+pub record ByFitting (k : Key) (s n : ℕ) (v : Triple) (before : List ℕ) (c : Counts) (after : List ℕ) : Type 0 where
+  pub whole-count : Many (WholeAt k s v) n (c .whole)
+  pub doubtful-count : Many (DoubtfulAt k s v) n (c .doubtful)
+  pub clashing-count : Many (ClashingAt k s v) n (c .clashing)
+  pub lost-count : Many (LostAt k s v) n (c .lost)
+  pub all-counted : c .whole + c .doubtful + c .clashing + c .lost ≡ n
+  -- health: at most 1,000, and 1,000 exactly if all sectors are whole
+  pub rounded-down : c .health ≡ c .whole * 1000 / n
+  pub health-most : c .health ≤ 1000
+  pub health-full : (c .health ≡ 1000) ↔ ((i : ℕ) → i < n → WholeAt k s v i)
+  -- the front of the list, and the entries behind
+  pub front : List ℕ
+  pub not-whole : Lists (λ i. WholeAt k s v i → ⊥) n front
+  pub behind : after ≡ front ++ drop (length front) before
+
+-- ---- what is proved
+
 unfoldable pub isKept : Held → Bool
 isKept gone = false
 isKept (kept P d) = true
 
--- a survey with the volume's key, s and n, on the images v and a list of this length, that is not refused
-abbrev pub Accepted : Volume → Triple → ℕ → Type 0
-Accepted vol v room = firstOf (surveyRules (vol .key) (vol .size) (vol .count) (isShape (vol .size) (vol .count) v) room) ≡ none
-
--- such a survey's verdicts
-abbrev pub verdicts : Volume → Triple → ℕ → Verdict
-verdicts vol v = verdictAt (mirror (vol .key)) (vol .size) v
+-- the refusal of a survey of the images v with a list of this length, if it is refused
+abbrev pub surveyRefusal : Triple → Key → ℕ → ℕ → ℕ → Option ℕ
+surveyRefusal v k s n room = firstOf (surveyRules k s n (isShape s n v) room)
 
 pub record SurveyFacts : Type 0 where
-  -- a survey that is not refused answers with the counts of its verdicts
-  pub answers : (vol : Volume) (v : Triple) (list : List ℕ) → Accepted vol v (length list)
-      → surveyOutcome v (vol .key) (vol .size) (vol .count) list ≡ surveyed (verdicts vol v) (vol .count) list
-  -- the four counts add up to n
-  pub all-counted : (w : ℕ → Verdict) (n : ℕ) → tally isWhole w n + tally isDoubtful w n + tally isClashing w n + tally isLost w n ≡ n
-  -- a number is listed exactly if it is below n and its sector is not whole; and it is listed once
-  pub in-list : (w : ℕ → Verdict) (n i : ℕ) → List·Memᴰ i (listed w n) ↔ ((i < n) × (isWhole (w i) ≡ false))
-  pub list-rises : (w : ℕ → Verdict) (n : ℕ) → Rises (listed w n)
-  -- health is at most 1,000, and 1,000 exactly if all sectors are whole
-  pub health-most : (w : ℕ → Verdict) (n : ℕ) → 1 ≤ n → health (tally isWhole w n) n ≤ 1000
-  pub health-full : (w : ℕ → Verdict) (n : ℕ) → 1 ≤ n
-      → (health (tally isWhole w n) n ≡ 1000) ↔ ((i : ℕ) → i < n → isWhole (w i) ≡ true)
+  -- a refused survey leaves the list; any other answers with the counts of its verdicts
+  pub refuses : (v : Triple) (k : Key) (s n : ℕ) (list : List ℕ) (m : ℕ) → surveyRefusal v k s n (length list) ≡ some m
+      → surveyOutcome v k s n list ≡ (refused m, list)
+  pub answers : (v : Triple) (k : Key) (s n : ℕ) (list : List ℕ) → surveyRefusal v k s n (length list) ≡ none
+      → surveyOutcome v k s n list ≡ surveyed (verdictAt (mirror k) s v) n list
+  -- these are the counts, and the list, by fitting
+  pub by-fitting : (v : Triple) → AnyBytes v → (k : Key) (s n : ℕ) (list : List ℕ) (c : Counts) (after : List ℕ)
+      → surveyOutcome v k s n list ≡ (counted c, after) → ByFitting k s n v list c after
   -- after every list of events, from images of any bytes and all sectors gone: no sector that the machine keeps is lost,
   pub kept-found : (vol : Volume) (v : Triple) → AnyBytes v → (es : List Event) → AllAllowed mirror vol v es
-      → (room : ℕ) → Accepted vol (run mirror vol v es) room
-      → (i : ℕ) → i < vol .count → isKept (hold mirror vol v start es i) ≡ true → isLost (verdicts vol (run mirror vol v es) i) ≡ false
-  -- so no more are kept than the survey counts as whole, doubtful or clashing
+      → (i : ℕ) → i < vol .count → isKept (hold mirror vol v start es i) ≡ true
+      → LostAt (vol .key) (vol .size) (run mirror vol v es) i → ⊥
+  -- so no more are kept than a survey counts as whole, doubtful or clashing
   pub kept-counted : (vol : Volume) (v : Triple) → AnyBytes v → (es : List Event) → AllAllowed mirror vol v es
-      → (room : ℕ) → Accepted vol (run mirror vol v es) room
-      → let w = verdicts vol (run mirror vol v es) in
-      let n = vol .count in
-      tally isKept (hold mirror vol v start es) n ≤ tally isWhole w n + tally isDoubtful w n + tally isClashing w n
+      → (list : List ℕ) (c : Counts) (after : List ℕ)
+      → surveyOutcome (run mirror vol v es) (vol .key) (vol .size) (vol .count) list ≡ (counted c, after)
+      → tally isKept (hold mirror vol v start es) (vol .count) ≤ c .whole + c .doubtful + c .clashing

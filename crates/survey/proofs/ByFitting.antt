@@ -1,0 +1,150 @@
+-- The survey's counts and list by fitting: what judging tells of each sector is what the verdict means. Assumes nothing.
+use mathlib.Core.Path.{_≡_, refl, sym, ap, subst, _∙_}
+use mathlib.Core.Logic.{_↔_}
+use mathlib.Core.Bool.{Bool, true, false, not}
+use mathlib.Core.List.{List}
+use mathlib.Core.Option.{Option, none, some}
+use Prim.Native.Nat.{ℕ, _<_}
+use lib.ListN.{length}
+use borrow.Author.Tests.{not-true}
+use Rattle.block.proofs.Lists.{false-true, clash}
+use Rattle.mode.specs.Scheme.{Place, Scheme, Sector}
+use Rattle.mode.specs.Sealing.{Triple, Key}
+use Rattle.verdict.specs.Answers.{firstOf, settleBy}
+use Rattle.verdict.specs.Verdict.{Verdict, whole, doubtful, lost, clashing, Means, judge, JudgeExact}
+use Rattle.verdict.proofs.JudgeExact.{judge-exact}
+use Rattle.history.specs.Answers.{isWhole, isDoubtful, isClashing, isLost}
+use Rattle.history.specs.HistoryFrom.{AnyBytes}
+use Rattle.history.specs.Volume.{sectorOf, mirror}
+use Rattle.history.proofs.Demand3.{mirror-sound}
+use Rattle.history.proofs.Images.{sector-images}
+use Rattle.history.proofs.Refusals.{Common, shape-facts, shape-images}
+use Rattle.survey.specs.declared.Counts.{Counts}
+use Rattle.survey.specs.Survey.{chosen, tally, listed, health, countsOf, written, Report, refused, counted, verdictAt, surveyed, surveyRefusal, surveyOutcome, WholeAt, DoubtfulAt, ClashingAt, LostAt, Many, ByFitting}
+use Rattle.survey.proofs.Surveying.{tests}
+use Rattle.survey.proofs.Tallies.{chosen-lists, all-counted, health-most, health-full}
+
+-- ---- one sector
+
+module _ (s : ℕ) (S : Scheme) (exact : JudgeExact s S) (T : ℕ) (t : Triple) (σ : Sector s t) where
+  -- a test of the verdict passes exactly where M holds, if M is what the verdicts that pass mean
+  tie : (is : Verdict → Bool) (M : Type 0) → ((w : Verdict) → is w ≡ true → Means s S T t w → M)
+      → (M → (w : Verdict) × Means s S T t w × (is w ≡ true)) → (is (judge S T t) ≡ true) ↔ M
+  tie is M to from = (
+    λ e. to (judge S T t) e (exact T t σ (judge S T t) .0 refl),
+    λ m. let (w, means, e) = from m in ap is (exact T t σ w .1 means) ∙ e,
+  )
+
+  tie-whole : (isWhole (judge S T t) ≡ true) ↔ ((P : List ℕ) × Means s S T t (whole P))
+  unfolding isWhole
+  tie-whole = tie isWhole _ to (λ x. (whole (x .0), x .1, refl))
+    where
+      to : (w : Verdict) → isWhole w ≡ true → Means s S T t w → (P : List ℕ) × Means s S T t (whole P)
+      to (whole P) e m = (P, m)
+      to (doubtful d P) e m = false-true e
+      to lost e m = false-true e
+      to clashing e m = false-true e
+
+  tie-doubtful : (isDoubtful (judge S T t) ≡ true) ↔ ((d : Place) × (P : List ℕ) × Means s S T t (doubtful d P))
+  unfolding isDoubtful
+  tie-doubtful = tie isDoubtful _ to (λ x. (doubtful (x .0) (x .1), x .2, refl))
+    where
+      to : (w : Verdict) → isDoubtful w ≡ true → Means s S T t w → (d : Place) × (P : List ℕ) × Means s S T t (doubtful d P)
+      to (whole P) e m = false-true e
+      to (doubtful d P) e m = (d, P, m)
+      to lost e m = false-true e
+      to clashing e m = false-true e
+
+  tie-clashing : (isClashing (judge S T t) ≡ true) ↔ Means s S T t clashing
+  unfolding isClashing
+  tie-clashing = tie isClashing _ to (λ x. (clashing, x, refl))
+    where
+      to : (w : Verdict) → isClashing w ≡ true → Means s S T t w → Means s S T t clashing
+      to (whole P) e m = false-true e
+      to (doubtful d P) e m = false-true e
+      to lost e m = false-true e
+      to clashing e m = m
+
+  tie-lost : (isLost (judge S T t) ≡ true) ↔ Means s S T t lost
+  unfolding isLost
+  tie-lost = tie isLost _ to (λ x. (lost, x, refl))
+    where
+      to : (w : Verdict) → isLost w ≡ true → Means s S T t w → Means s S T t lost
+      to (whole P) e m = false-true e
+      to (doubtful d P) e m = false-true e
+      to lost e m = m
+      to clashing e m = false-true e
+
+tie-not : {M : Type 0} (b : Bool) → (b ≡ true) ↔ M → (not b ≡ true) ↔ (M → ⊥)
+tie-not {M} b t = (λ e m. clash (t .1 m) (not-true b e), λ n. go b refl n)
+  where
+    go : (x : Bool) → b ≡ x → (M → ⊥) → not x ≡ true
+    go true e n = absurd (n (t .0 e))
+    go false e n = refl
+
+-- ---- a survey that is not refused
+
+abbrev IsCounted : Report → Type 0
+IsCounted (refused m) = ⊥
+IsCounted (counted c) = Unit {0}
+
+-- what holds of the counts and the list of a survey that passes its checks holds of those that a caller gets
+pub of-outcome : (v : Triple) (k : Key) (s n : ℕ) (list : List ℕ) (Q : Report × List ℕ → Type 0)
+    → (Common v k s n → Q (surveyed (verdictAt (mirror k) s v) n list))
+    → (c : Counts) (after : List ℕ) → surveyOutcome v k s n list ≡ (counted c, after) → Q (counted c, after)
+unfolding surveyOutcome
+of-outcome v k s n list Q q c after e = go (surveyRefusal v k s n (length list)) refl e
+  where
+    go : (o : Option ℕ) → surveyRefusal v k s n (length list) ≡ o
+        → settleBy refused o (surveyed (verdictAt (mirror k) s v) n list) list ≡ (counted c, after) → Q (counted c, after)
+    go none d z = subst Q z (q (tests v k s n (length list) d .0))
+    go (some m) d z = absurd (subst (λ (x : Report × List ℕ). IsCounted (x .0)) (sym z) tt)
+
+module _ (v : Triple) (bytes : AnyBytes v) (k : Key) (s n : ℕ) (o : Common v k s n) where
+  w : ℕ → Verdict
+  w = verdictAt (mirror k) s v
+
+  exact : JudgeExact s (mirror k)
+  exact = judge-exact s (mirror k) (mirror-sound .lawful k s (o .key) (o .size))
+
+  sector-at : (i : ℕ) → i < n → Sector s (sectorOf s i v)
+  sector-at i lt = sector-images s n i lt v (shape-images s n v (o .shape) bytes)
+
+  whole-at : (i : ℕ) → i < n → (isWhole (w i) ≡ true) ↔ WholeAt k s v i
+  unfolding w
+  whole-at i lt = tie-whole s (mirror k) exact i (sectorOf s i v) (sector-at i lt)
+
+  pub lost-at : (i : ℕ) → i < n → (isLost (verdictAt (mirror k) s v i) ≡ true) ↔ LostAt k s v i
+  lost-at i lt = tie-lost s (mirror k) exact i (sectorOf s i v) (sector-at i lt)
+
+  many : (P : ℕ → Type 0) (is : Verdict → Bool) → ((i : ℕ) → i < n → (is (w i) ≡ true) ↔ P i) → Many P n (tally is w n)
+  unfolding tally
+  many P is t = (chosen (λ i. is (w i)) n, chosen-lists P (λ i. is (w i)) n t, refl)
+
+  pub accepted-fitting : (list : List ℕ) → ByFitting k s n v list (countsOf (verdictAt (mirror k) s v) n (health (tally isWhole (verdictAt (mirror k) s v) n) n)) (written (verdictAt (mirror k) s v) n list)
+  unfolding w health listed
+  accepted-fitting list = record {
+    whole-count = many (WholeAt k s v) isWhole whole-at;
+    doubtful-count = many (DoubtfulAt k s v) isDoubtful (λ i lt. tie-doubtful s (mirror k) exact i (sectorOf s i v) (sector-at i lt));
+    clashing-count = many (ClashingAt k s v) isClashing (λ i lt. tie-clashing s (mirror k) exact i (sectorOf s i v) (sector-at i lt));
+    lost-count = many (LostAt k s v) isLost lost-at;
+    all-counted = all-counted w n;
+    rounded-down = refl;
+    health-most = health-most w n;
+    health-full =
+        let f = health-full w n (shape-facts s n v (o .shape) .0) in
+        (λ e i lt. whole-at i lt .0 (f .0 e i lt), λ a. f .1 (λ i lt. whole-at i lt .1 (a i lt)));
+    front = listed w n;
+    not-whole = chosen-lists (λ i. WholeAt k s v i → ⊥) (λ i. not (isWhole (w i))) n (λ i lt. tie-not (isWhole (w i)) (whole-at i lt));
+    behind = refl;
+  }
+
+-- what a caller gets
+abbrev Fitted : Key → ℕ → ℕ → Triple → List ℕ → Report × List ℕ → Type 0
+Fitted k s n v before (refused m, after) = Unit {0}
+Fitted k s n v before (counted c, after) = ByFitting k s n v before c after
+
+pub by-fitting : (v : Triple) → AnyBytes v → (k : Key) (s n : ℕ) (list : List ℕ) (c : Counts) (after : List ℕ)
+    → surveyOutcome v k s n list ≡ (counted c, after) → ByFitting k s n v list c after
+by-fitting v bytes k s n list c after e =
+    of-outcome v k s n list (Fitted k s n v list) (λ o. accepted-fitting v bytes k s n o list) c after e
