@@ -1,0 +1,54 @@
+-- The five numbers of a survey by fitting. Assumes nothing.
+use mathlib.Core.Path.{_≡_, refl, sym, ap, subst, _∙_}
+use mathlib.Core.Bool.{Bool, true, false, not}
+use mathlib.Core.List.{List, [], _∷_}
+use mathlib.Core.Option.{Option, none, some}
+use Prim.Native.Nat.{ℕ}
+use native.Mathlib.Omega.{arith}
+use lib.Dec.{ltb}
+use lib.ListN.{length}
+use Rattle.mode.specs.Scheme.{isKey, isSize}
+use Rattle.mode.specs.Sealing.{Triple, Key}
+use Rattle.verdict.specs.Answers.{rule, firstOf}
+use Rattle.verdict.specs.Verdict.{Verdict}
+use Rattle.history.specs.Answers.{isWhole}
+use Rattle.history.specs.HistoryFrom.{AnyBytes}
+use Rattle.history.specs.Volume.{isShape, mirror}
+use Rattle.survey.specs.declared.Counts.{Counts}
+use Rattle.survey.specs.Survey.{tally, health, countsOf, written, Report, refused, counted, verdictAt, surveyed, surveyRefusal, surveyOutcome, ByFitting}
+use Rattle.survey.proofs.SurveyFacts.{survey-facts}
+use Rattle.mirror.specs.Survey.{numbers, surveyResult, SurveyNumbers}
+
+-- no refusal of a survey has the number 0
+not-zero : (a b c d : Bool) → firstOf (rule 1 a ∷ rule 2 b ∷ rule 8 c ∷ rule 11 d ∷ []) ≡ some 0 → ⊥
+not-zero true b c d e = let z : _≡_ {A = ℕ} 1 0 = cc in omega arith
+not-zero false true c d e = let z : _≡_ {A = ℕ} 2 0 = cc in omega arith
+not-zero false false true d e = let z : _≡_ {A = ℕ} 8 0 = cc in omega arith
+not-zero false false false true e = let z : _≡_ {A = ℕ} 11 0 = cc in omega arith
+not-zero false false false false e = let z : _≡_ {A = ℕ} 0 1 = cc in omega arith
+
+by-fitting : (v : Triple) → AnyBytes v → (k : Key) (s n : ℕ) (list before five after : List ℕ)
+    → surveyResult (surveyOutcome v k s n list) before ≡ (0, (five, after))
+    → (c : Counts) × (five ≡ numbers c) × ByFitting k s n v list c after
+by-fitting v bytes k s n list before five after e = go (surveyRefusal v k s n (length list)) refl
+  where
+    w : ℕ → Verdict
+    w = verdictAt (mirror k) s v
+
+    c : Counts
+    c = countsOf w n (health (tally isWhole w n) n)
+
+    go : (o : Option ℕ) → surveyRefusal v k s n (length list) ≡ o → (c : Counts) × (five ≡ numbers c) × ByFitting k s n v list c after
+    go none d =
+        let a : surveyOutcome v k s n list ≡ surveyed w n list = survey-facts .answers v k s n list d in
+        let r : surveyResult (surveyed w n list) before ≡ (0, (five, after)) = ap (λ (x : Report × List ℕ). surveyResult x before) (sym a) ∙ e in (
+          c,
+          ap (λ (x : ℕ × (List ℕ × List ℕ)). x .1 .0) (sym r),
+          subst (λ (l : List ℕ). ByFitting k s n v list c l) (ap (λ (x : ℕ × (List ℕ × List ℕ)). x .1 .1) r) (survey-facts .by-fitting v bytes k s n list c (written w n list) a),
+        )
+    go (some m) d =
+        let r : surveyResult (refused m, list) before ≡ (0, (five, after)) = ap (λ (x : Report × List ℕ). surveyResult x before) (sym (survey-facts .refuses v k s n list m d)) ∙ e in
+        absurd (not-zero (not (isKey k)) (not (isSize s)) (not (isShape s n v)) (ltb (length list) n) (d ∙ ap some (ap (λ (x : ℕ × (List ℕ × List ℕ)). x .0) r)))
+
+pub survey-numbers : SurveyNumbers
+survey-numbers = record { by-fitting = by-fitting }
