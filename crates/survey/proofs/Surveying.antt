@@ -81,7 +81,7 @@ unfolding isWhole isDoubtful isClashing isLost
 tells-refused {j} {f} z (whole P) e = absurd (omega (arith, refusal-range f, ap judgedNumber z))
 tells-refused {j} {f} z (doubtful d P) e = absurd (omega (arith, refusal-range f, doubt-least d, ap judgedNumber z))
 tells-refused {j} {f} z lost e =
-    let y = eq-eqb (refusalNumber f) 6 (ap judgedNumber (sym z) ∙ e) in
+    let y = eq-eqb (refusalNumber f) 6 (ap judgedNumber (sym z) ∙ e .number) in
     record { whole = refl; doubtful = refl; clashing = sym (ap not y); lost = sym y }
 tells-refused {j} {f} z clashing e =
     let y = ne-eqb (refusalNumber f) 6 (λ d. omega (arith, ap judgedNumber z)) in
@@ -172,12 +172,34 @@ module _ (w : ℕ → Verdict) (old : List ℕ) where
         subst (λ (k : ℕ). Surveys w old k d new) (sym (add-one i))
         (surveys w old (suc i) d new (counts-next (v .counts) (f (w i) e)) (list-next lt (v .entries) x) (z ∙ v .size))
 
+-- The loop over n sectors, at the number i.
+pub record Loop (w : ℕ → Verdict) (n : ℕ) (old : List ℕ) (i : ℕ) (c : Counts) (list : List ℕ) : Type 0 where
+  pub reached : i ≤ n
+  pub count : n ≤ 65536
+  pub room : n ≤ length old
+  pub surveys : Surveys w old i c list
+
+module _ (w : ℕ → Verdict) (n : ℕ) (old : List ℕ) where
+  pub loop-none : n ≤ 65536 → n ≤ length old → Loop w n old 0 (record { whole = 0; doubtful = 0; clashing = 0; lost = 0; health = 0 }) old
+  loop-none h room = record { reached = omega arith; count = h; room = room; surveys = surveys-none w old }
+
+  -- a turn, by what its three calls ensure
+  pub loop-next : {i : ℕ} {c d : Counts} {list new : List ℕ} {j : Judged} → Loop w n old i c list → i < n
+      → Tells j (w i) → CountsOne j c d → ListsOne j (i - c .whole) i list new → length new ≡ length list → Loop w n old (i + 1) d new
+  loop-next {i} {j = j} v lt e f g z = record {
+    reached = omega arith;
+    count = v .count;
+    room = v .room;
+    surveys = surveys-next w old i j (v .surveys) (omega (arith, v .room)) e f g z;
+  }
+
   -- the health of them all
-  pub surveys-all : (n i h : ℕ) → i ≤ n → n ≤ i → {c : Counts} {list : List ℕ} → Surveys w old i c list → h ≡ health (c .whole) n
+  pub loop-all : {i h : ℕ} {c : Counts} {list : List ℕ} → Loop w n old i c list → n ≤ i → h ≡ health (c .whole) n
       → surveyed w n old ≡ (counted (record { whole = c .whole; doubtful = c .doubtful; clashing = c .clashing; lost = c .lost; health = h }), list)
-  surveys-all n i h le ge {c} {list} v d =
+  loop-all {i} {h} {c} {list} v ge d =
+      let le : i ≤ n = v .reached in
       let e : i ≡ n = omega arith in
-      let z : Surveys w old n c list = subst (λ (k : ℕ). Surveys w old k c list) e v in
+      let z : Surveys w old n c list = subst (λ (k : ℕ). Surveys w old k c list) e (v .surveys) in
       ap₂ (λ (x : Counts) (l : List ℕ). (counted (record { whole = x .whole; doubtful = x .doubtful; clashing = x .clashing; lost = x .lost; health = health (x .whole) n }), l))
       (sym (z .counts)) (sym (z .entries))
       ∙ ap (λ (k : ℕ). (counted (record { whole = c .whole; doubtful = c .doubtful; clashing = c .clashing; lost = c .lost; health = k }), list)) (sym d)
@@ -190,10 +212,12 @@ ready-other z a b = record { table = z .table; rounds = z .rounds; powers = z .p
 
 pub verdict-by : (w p : List ℕ) (m : Context) (s i : ℕ) (l g r out new : List ℕ) (j : Judged) → value (m .tweak) ≡ tweak i
     → judgedBy w p m (part s i l) (part 16 i g) (part s i r) out ≡ (judgedNumber j, new) → Tells j (verdictBy (schemeOf w p) s l g r i)
-verdict-by w p m s i l g r out new j em e =
-    ap (λ (x : ℕ × List ℕ). x .0) (sym e)
-    ∙ outcome-number (judge (schemeOf w p) (value (m .tweak)) (placesOf s i l g r)) out
-    ∙ ap (λ (T : ℕ). verdictNumber (judge (schemeOf w p) T (placesOf s i l g r))) em
+verdict-by w p m s i l g r out new j em e = record {
+  number =
+      ap (λ (x : ℕ × List ℕ). x .0) (sym e)
+      ∙ outcome-number (judge (schemeOf w p) (value (m .tweak)) (placesOf s i l g r)) out
+      ∙ ap (λ (T : ℕ). verdictNumber (judge (schemeOf w p) T (placesOf s i l g r))) em;
+}
 
 pub survey-keyed : (k : List ℕ) (r : Prepared) → PreparedFor k r → (s n : ℕ) (l g x list : List ℕ)
     → surveyed (verdictBy (schemeOf (r .words) (r .powers)) s l g x) n list ≡ surveyed (verdictAt (mirror (key k)) s (triple l g x)) n list

@@ -19,8 +19,8 @@ abbrev pub verdictBy : Scheme → ℕ → List ℕ → List ℕ → List ℕ →
 verdictBy S s l g r i = judge S (tweak i) (placesOf s i l g r)
 
 -- the code's answer is that of the verdict w
-abbrev pub Tells : Judged → Verdict → Type 0
-Tells j w = judgedNumber j ≡ verdictNumber w
+pub record Tells (j : Judged) (w : Verdict) : Type 0 where
+  pub number : judgedNumber j ≡ verdictNumber w
 
 -- one more sector, with the verdict w
 abbrev pub addIf : Bool → ℕ → ℕ
