@@ -10,6 +10,7 @@ use lib.Dec.{eqb, ltb}
 use lib.ListN.{length, drop, set, length-append}
 use lib.Seq.{drop-cons, set-at}
 use borrow.Author.Tests.{ltb-false, eq-eqb, ne-eqb}
+use Rattle.aes.specs.Columns.{roundTable}
 use Rattle.mode.specs.declared.Context.{Context}
 use Rattle.mode.specs.declared.Prepared.{Prepared}
 use Rattle.mode.specs.Prepared.{PreparedFor, Ready}
@@ -206,6 +207,10 @@ module _ (w : ℕ → Verdict) (n : ℕ) (old : List ℕ) where
 
 -- ---- the prepared key
 
+-- the context of any sector
+pub ready-at : {k t : List ℕ} {r : Prepared} {m : Context} → PreparedFor k r → value (m .alpha) ≡ value (r .alpha) → value (m .beta) ≡ value (r .beta) → t ≡ roundTable → Ready t (r .words) (r .powers) m
+ready-at e a b t = record { table = t; rounds = e .rounds; powers = e .powers; alpha = a ∙ e .alpha; beta = b ∙ e .beta }
+
 -- the context of another sector
 pub ready-other : {t w p : List ℕ} {m o : Context} → Ready t w p m → value (o .alpha) ≡ value (m .alpha) → value (o .beta) ≡ value (m .beta) → Ready t w p o
 ready-other z a b = record { table = z .table; rounds = z .rounds; powers = z .powers; alpha = a ∙ z .alpha; beta = b ∙ z .beta }
@@ -219,10 +224,10 @@ verdict-by w p m s i l g r out new j em e = record {
       ∙ ap (λ (T : ℕ). verdictNumber (judge (schemeOf w p) T (placesOf s i l g r))) em;
 }
 
-pub survey-keyed : (k : List ℕ) (r : Prepared) → PreparedFor k r → (s n : ℕ) (l g x list : List ℕ)
-    → surveyed (verdictBy (schemeOf (r .words) (r .powers)) s l g x) n list ≡ surveyed (verdictAt (mirror (key k)) s (triple l g x)) n list
+pub survey-keyed : (k : List ℕ) (r : Prepared) → PreparedFor k r → (s n : ℕ) (l g x list : List ℕ) {a : Report × List ℕ}
+    → surveyed (verdictBy (schemeOf (r .words) (r .powers)) s l g x) n list ≡ a → surveyed (verdictAt (mirror (key k)) s (triple l g x)) n list ≡ a
 unfolding judge grade fitsTwo fits candidate mirror
-survey-keyed k r e s n l g x list = ap (λ (S : Scheme). surveyed (verdictBy S s l g x) n list) (scheme-is k r e)
+survey-keyed k r e s n l g x list d = sym (ap (λ (S : Scheme). surveyed (verdictBy S s l g x) n list) (scheme-is k r e)) ∙ d
 
 -- ---- the refusals
 

@@ -156,6 +156,42 @@ fn survey_in(
     counts
 }
 
+// The same, with scratch slices of its own.
+fn survey_prepared(
+    t: &Table,
+    w: &[u32],
+    powers: &[u64; 18],
+    m: Context,
+    s: usize,
+    n: usize,
+    local: &[u8],
+    tags: &[u8],
+    remote: &[u8],
+    list: &mut [u32],
+) -> Counts
+    requires { ⌜ Ready (now t) (now w) (now powers) m × Room s n (length (now local)) (length (now tags)) (length (now remote)) × (n ≤ length (now list)) ⌝ }
+    ensures { λ r. ⌜ surveyed (verdictBy (schemeOf (now (w .entry)) (now (powers .entry))) s (now (local .entry)) (now (tags .entry)) (now (remote .entry))) n (now (list .entry)) ≡ (counted r, now (list .exit)) ⌝ }
+{
+    let mut plain = [0u8; 4096];
+    let mut sum = [0u8; 4096];
+    let mut work = [0u8; 4096];
+    survey_in(
+        t,
+        w,
+        powers,
+        m,
+        s,
+        n,
+        local,
+        tags,
+        remote,
+        list,
+        &mut plain[..s],
+        &mut sum[..s],
+        &mut work[..s],
+    )
+}
+
 fn survey_checked(
     key: &[u8],
     s: usize,
@@ -173,24 +209,7 @@ fn survey_checked(
     let w = k.words;
     let powers = k.powers;
     let m = verdict::context(k.alpha, k.beta, 0);
-    let mut plain = [0u8; 4096];
-    let mut sum = [0u8; 4096];
-    let mut work = [0u8; 4096];
-    survey_in(
-        &t,
-        &w,
-        &powers,
-        m,
-        s,
-        n,
-        local,
-        tags,
-        remote,
-        list,
-        &mut plain[..s],
-        &mut sum[..s],
-        &mut work[..s],
-    )
+    survey_prepared(&t, &w, &powers, m, s, n, local, tags, remote, list)
 }
 
 // Counts the sectors by their verdict, and lists the numbers of those that are not whole.
