@@ -9,7 +9,7 @@ use native.Mathlib.Omega.{arith}
 use lib.Dec.{eqb, ltb}
 use lib.ListN.{length, drop, set, length-append}
 use lib.Seq.{drop-cons, set-at}
-use borrow.Author.Tests.{ltb-false, eq-eqb, ne-eqb}
+use borrow.Author.Tests.{ltb-false, lt-ltb, le-ltb, eq-eqb, ne-eqb}
 use Rattle.aes.specs.Columns.{roundTable}
 use Rattle.mode.specs.declared.Context.{Context}
 use Rattle.mode.specs.declared.Prepared.{Prepared}
@@ -18,22 +18,25 @@ use Rattle.mode.specs.Scheme.{Scheme}
 use Rattle.mode.specs.Sealing.{Triple, Key, tweak}
 use Rattle.block.specs.Value.{value}
 use Rattle.block.specs.Bytes.{part}
+use Rattle.verdict.specs.declared.Done.{Done}
+use Rattle.verdict.specs.declared.Done.the-variants as D
 use Rattle.verdict.specs.declared.Judged.{Judged}
 use Rattle.verdict.specs.declared.Judged.the-variants as J
-use Rattle.verdict.specs.declared.Place as D
+use Rattle.verdict.specs.declared.Place as N
 use Rattle.verdict.specs.declared.Refusal.{Refusal}
 use Rattle.verdict.specs.declared.Refusal.the-variants.{KeyLength, SectorSize, OtherLength, UnknownSide, NoneFits, Lost, Clashing, VolumeShape, SectorNumber, StageOrder, ListLength, NoFrame}
-use Rattle.verdict.specs.Answers.{Rule, rule, firstOf, settleBy, refusalNumber, placeNamed, judgedNumber}
+use Rattle.verdict.specs.Answers.{Rule, rule, firstOf, settleBy, refusalNumber, doneOption, placeNamed, judgedNumber}
 use Rattle.verdict.specs.Judging.{key, triple, verdictNumber, schemeOf, judgedBy}
 use Rattle.verdict.specs.Verdict.{Verdict, whole, doubtful, lost, clashing, fits, fitsTwo, candidate, grade, judge}
 use Rattle.verdict.proofs.Prepared.{scheme-is}
-use Rattle.verdict.proofs.Rules.{only-rule, none-left, none-right}
+use Rattle.verdict.proofs.Rules.{only-rule, none-left, none-right, check-passed, check-refused}
 use Rattle.survey.specs.declared.Counts.{Counts}
 use Rattle.history.specs.Answers.{isWhole, isDoubtful, isClashing, isLost}
-use Rattle.images.specs.Lent.{placesOf}
+use Rattle.images.specs.Lent.{Room, placesOf}
+use Rattle.images.proofs.Rooms.{has-room}
 use Rattle.survey.specs.Survey.{chosen, tally, listed, health, countsOf, written, Report, counted, refused, surveyRules, verdictAt, surveyed, surveyOutcome}
 use Rattle.survey.specs.Inner.{verdictBy, Tells, addIf, counting, CountsOne, ListsOne}
-use Rattle.history.specs.Volume.{isShape, volumeRules, mirror}
+use Rattle.history.specs.Volume.{shape, isShape, volumeRules, mirror}
 use Rattle.history.proofs.Refusals.{Common, common}
 use Rattle.verdict.proofs.Numbers.{refusal-range, doubt-least, outcome-number}
 use Rattle.survey.proofs.Tallies.{tally-next, tally-le, listed-next, length-listed}
@@ -68,7 +71,7 @@ tells-whole z (doubtful d P) e = absurd (omega (arith, doubt-least d, ap judgedN
 tells-whole z lost e = absurd (omega (arith, ap judgedNumber z))
 tells-whole z clashing e = absurd (omega (arith, ap judgedNumber z))
 
-pub tells-doubtful : {j : Judged} {p : D.Place} → j ≡ J.Doubtful p → (w : Verdict) → Tells j w → Kind w false true false false
+pub tells-doubtful : {j : Judged} {p : N.Place} → j ≡ J.Doubtful p → (w : Verdict) → Tells j w → Kind w false true false false
 unfolding isWhole isDoubtful isClashing isLost
 tells-doubtful {j} {p} z (whole P) e = absurd (omega (arith, doubt-least (placeNamed p), ap judgedNumber z))
 tells-doubtful z (doubtful d P) e = record { whole = refl; doubtful = refl; clashing = refl; lost = refl }
@@ -249,3 +252,39 @@ module _ (v : Triple) (k : Key) (s n : ℕ) (list : List ℕ) where
   pub survey-refused : {m : ℕ} → firstOf rules ≡ some m → surveyOutcome v k s n list ≡ (refused m, list)
   unfolding surveyOutcome
   survey-refused e = ap (λ (o : Option ℕ). settleBy refused o (surveyed (verdictAt (mirror k) s v) n list) list) e
+
+-- ---- the checks, by what they answer
+
+-- of a volume of these lengths, and of a list
+module _ (k : Key) (s n l g r room : ℕ) where
+  abbrev every : List Rule
+  every = volumeRules k s (shape s n l g r)
+
+  abbrev eleven : List Rule
+  eleven = rule 11 (ltb room n) ∷ []
+
+  pub list-short : {d : Done} → firstOf every ≡ doneOption d → d ≡ D.Done → room < n → firstOf (every ++ eleven) ≡ some 11
+  list-short e z h = check-passed eleven every e z ∙ simp (lt-ltb room n h)
+
+  pub list-enough : {d : Done} → firstOf every ≡ doneOption d → d ≡ D.Done → n ≤ room → firstOf (every ++ eleven) ≡ none
+  list-enough e z h = check-passed eleven every e z ∙ simp (le-ltb room n h)
+
+  pub volume-refused : {d : Done} {f : Refusal} → firstOf every ≡ doneOption d → d ≡ D.Refused f → firstOf (every ++ eleven) ≡ some (refusalNumber f)
+  volume-refused e z = check-refused eleven every e z
+
+-- of these images and this list
+module _ (k l g r list : List ℕ) (s n : ℕ) {d : Done} (e : firstOf (surveyRules (key k) s n (shape s n (length l) (length g) (length r)) (length list)) ≡ doneOption d) where
+  pub checked-room : d ≡ D.Done → (length k ≡ 32) × Room s n (length l) (length g) (length r) × (n ≤ length list)
+  unfolding isShape
+  checked-room z =
+      let t = tests (triple l g r) (key k) s n (length list) (e ∙ ap doneOption z) in
+      let (size, room) = has-room (triple l g r) (key k) s n (t .0) in
+      (size, room, t .1)
+
+  pub checked-counted : {x : Report × List ℕ} → d ≡ D.Done → surveyed (verdictAt (mirror (key k)) s (triple l g r)) n list ≡ x → surveyOutcome (triple l g r) (key k) s n list ≡ x
+  unfolding isShape
+  checked-counted z c = survey-passes (triple l g r) (key k) s n list (e ∙ ap doneOption z) c
+
+  pub checked-refused : {f : Refusal} → d ≡ D.Refused f → surveyOutcome (triple l g r) (key k) s n list ≡ (refused (refusalNumber f), list)
+  unfolding isShape
+  checked-refused z = survey-refused (triple l g r) (key k) s n list (e ∙ ap doneOption z)

@@ -1,12 +1,5 @@
-use mathlib.Core.Path.{_∙_}
-use mathlib.Core.List.{[], _∷_}
 use native.Mathlib.Omega.{arith}
-use lib.Dec.{ltb}
-use Rattle.verdict.specs.Answers.{rule}
-use Rattle.verdict.specs.Judging.{key}
-use Rattle.verdict.proofs.Rules.{check-passed, check-refused}
-use Rattle.history.specs.Volume.{shape, volumeRules}
-use borrow.Author.Tests.{le-ltb, lt-ltb}
+use Rattle.survey.proofs.Surveying.{list-short, list-enough, volume-refused}
 use borrow.Author.Needs.{needs}
 use Rattle.survey.proofs.check_survey.Statement.{statement}
 use Rattle.survey.proofs.check_survey.Tie as tie
@@ -21,19 +14,13 @@ enum-known-checked : tie.Need-enum-known-checked
 enum-known-checked c = search needs
 
 returns : tie.Need-returns
-returns c =
-    let a = c .before .before .before .before .before .args in
-    check-passed (rule 11 (ltb (a .room) (a .n)) ∷ []) (volumeRules (key (a .key .now)) (a .s) (shape (a .s) (a .n) (a .l) (a .g) (a .r))) (c .before .before .before .check-volume .ensures) (c .before .enum-told .given .1) ∙ simp (lt-ltb (a .room) (a .n) (c .if1 .taken))
+returns c = list-short _ _ _ _ _ _ _ (c .before .before .before .check-volume .ensures) (c .before .enum-told .given .1) (c .if1 .taken)
 
 returns-2 : tie.Need-returns-2
-returns-2 c =
-    let a = c .before .before .before .before .before .args in
-    check-passed (rule 11 (ltb (a .room) (a .n)) ∷ []) (volumeRules (key (a .key .now)) (a .s) (shape (a .s) (a .n) (a .l) (a .g) (a .r))) (c .before .before .before .check-volume .ensures) (c .before .enum-told .given .1) ∙ simp (le-ltb (a .room) (a .n) (omega arith))
+returns-2 c = list-enough _ _ _ _ _ _ _ (c .before .before .before .check-volume .ensures) (c .before .enum-told .given .1) (omega arith)
 
 returns-3 : tie.Need-returns-3
-returns-3 c =
-    let a = c .before .before .before .before .before .args in
-    check-refused (rule 11 (ltb (a .room) (a .n)) ∷ []) (volumeRules (key (a .key .now)) (a .s) (shape (a .s) (a .n) (a .l) (a .g) (a .r))) (c .before .before .before .check-volume .ensures) (c .before .checked .given .1)
+returns-3 c = volume-refused _ _ _ _ _ _ _ (c .before .before .before .check-volume .ensures) (c .before .checked .given .1)
 
 pub check-survey-spec : {M : Type 1} → statement M
 check-survey-spec =
