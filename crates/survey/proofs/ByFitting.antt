@@ -21,7 +21,7 @@ use Rattle.history.proofs.Images.{sector-images}
 use Rattle.history.proofs.Refusals.{Common, shape-facts, shape-images}
 use Rattle.survey.specs.declared.Counts.{Counts}
 use Rattle.survey.specs.Survey.{chosen, tally, listed, health, countsOf, written, Report, refused, counted, verdictAt, surveyed, surveyRefusal, surveyOutcome, WholeAt, DoubtfulAt, ClashingAt, LostAt, Many, ByFitting}
-use Rattle.survey.proofs.Surveying.{tests}
+use Rattle.survey.proofs.Checks.{tests}
 use Rattle.survey.proofs.Tallies.{chosen-lists, all-counted, health-most, health-full}
 
 -- ---- one sector

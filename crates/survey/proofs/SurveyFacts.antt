@@ -19,7 +19,7 @@ use Rattle.history.proofs.Refusals.{Common}
 use Rattle.survey.specs.declared.Counts.{Counts}
 use Rattle.survey.specs.Survey.{tally, Report, refused, counted, verdictAt, surveyOutcome, LostAt, isKept, SurveyFacts}
 use Rattle.survey.proofs.ByFitting.{of-outcome, lost-at, by-fitting}
-use Rattle.survey.proofs.Surveying.{survey-passes, survey-refused}
+use Rattle.survey.proofs.Checks.{survey-passes, survey-refused}
 use Rattle.survey.proofs.Tallies.{all-counted, apart}
 
 -- ---- after a list of events

@@ -1,45 +1,39 @@
--- The survey, sector by sector: what each verdict adds, the loop's invariant, and the call's refusals. Assumes nothing.
+-- The survey, sector by sector: what each verdict adds, the list, the loop and the prepared key. Assumes nothing.
 use mathlib.Core.Path.{_≡_, refl, sym, ap, ap₂, subst, _∙_}
 use mathlib.Core.Bool.{Bool, true, false, not, cond}
 use mathlib.Core.List.{List, [], _∷_, _++_, append-assoc}
-use mathlib.Core.Option.{Option, none, some}
-use Prim.Native.Nat.{ℕ, suc, _+_, _-_, _<_, _≤_}
+use Prim.Native.Nat.{ℕ, zero, suc, _+_, _-_, _<_, _≤_}
 use native.Mathlib.Numerals.{add-one}
 use native.Mathlib.Omega.{arith}
-use lib.Dec.{eqb, ltb}
+use lib.Dec.{eqb}
 use lib.ListN.{length, drop, set, length-append}
 use lib.Seq.{drop-cons, set-at}
-use borrow.Author.Tests.{ltb-false, lt-ltb, le-ltb, eq-eqb, ne-eqb}
+use borrow.Author.Tests.{eq-eqb, ne-eqb}
 use Rattle.aes.specs.Columns.{roundTable}
 use Rattle.mode.specs.declared.Context.{Context}
 use Rattle.mode.specs.declared.Prepared.{Prepared}
 use Rattle.mode.specs.Prepared.{PreparedFor, Ready}
 use Rattle.mode.specs.Scheme.{Scheme}
-use Rattle.mode.specs.Sealing.{Triple, Key, tweak}
+use Rattle.mode.specs.Sealing.{tweak}
 use Rattle.block.specs.Value.{value}
 use Rattle.block.specs.Bytes.{part}
-use Rattle.verdict.specs.declared.Done.{Done}
-use Rattle.verdict.specs.declared.Done.the-variants as D
 use Rattle.verdict.specs.declared.Judged.{Judged}
 use Rattle.verdict.specs.declared.Judged.the-variants as J
-use Rattle.verdict.specs.declared.Place as N
+use Rattle.verdict.specs.declared.Place as D
 use Rattle.verdict.specs.declared.Refusal.{Refusal}
 use Rattle.verdict.specs.declared.Refusal.the-variants.{KeyLength, SectorSize, OtherLength, UnknownSide, NoneFits, Lost, Clashing, VolumeShape, SectorNumber, StageOrder, ListLength, NoFrame}
-use Rattle.verdict.specs.Answers.{Rule, rule, firstOf, settleBy, refusalNumber, doneOption, placeNamed, judgedNumber}
+use Rattle.verdict.specs.Answers.{refusalNumber, placeNamed, judgedNumber}
 use Rattle.verdict.specs.Judging.{key, triple, verdictNumber, schemeOf, judgedBy}
 use Rattle.verdict.specs.Verdict.{Verdict, whole, doubtful, lost, clashing, fits, fitsTwo, candidate, grade, judge}
 use Rattle.verdict.proofs.Prepared.{scheme-is}
-use Rattle.verdict.proofs.Rules.{only-rule, none-left, none-right, check-passed, check-refused}
-use Rattle.survey.specs.declared.Counts.{Counts}
-use Rattle.history.specs.Answers.{isWhole, isDoubtful, isClashing, isLost}
-use Rattle.images.specs.Lent.{Room, placesOf}
-use Rattle.images.proofs.Rooms.{has-room}
-use Rattle.survey.specs.Survey.{chosen, tally, listed, health, countsOf, written, Report, counted, refused, surveyRules, verdictAt, surveyed, surveyOutcome}
-use Rattle.survey.specs.Inner.{verdictBy, Tells, addIf, counting, CountsOne, ListsOne}
-use Rattle.history.specs.Volume.{shape, isShape, volumeRules, mirror}
-use Rattle.history.proofs.Refusals.{Common, common}
 use Rattle.verdict.proofs.Numbers.{refusal-range, doubt-least, outcome-number}
-use Rattle.survey.proofs.Tallies.{tally-next, tally-le, listed-next, length-listed}
+use Rattle.history.specs.Answers.{isWhole, isDoubtful, isClashing, isLost}
+use Rattle.history.specs.Volume.{mirror}
+use Rattle.images.specs.Lent.{placesOf}
+use Rattle.survey.specs.declared.Counts.{Counts}
+use Rattle.survey.specs.Survey.{chosen, tally, listed, health, countsOf, written, Report, counted, verdictAt, surveyed}
+use Rattle.survey.specs.Inner.{verdictBy, Tells, addIf, counting, CountsOne, ListsOne}
+use Rattle.survey.proofs.Tallies.{tally-none, tally-next, tally-le}
 
 -- ---- one sector: what the code's answer tells of the verdict
 
@@ -71,7 +65,7 @@ tells-whole z (doubtful d P) e = absurd (omega (arith, doubt-least d, ap judgedN
 tells-whole z lost e = absurd (omega (arith, ap judgedNumber z))
 tells-whole z clashing e = absurd (omega (arith, ap judgedNumber z))
 
-pub tells-doubtful : {j : Judged} {p : N.Place} → j ≡ J.Doubtful p → (w : Verdict) → Tells j w → Kind w false true false false
+pub tells-doubtful : {j : Judged} {p : D.Place} → j ≡ J.Doubtful p → (w : Verdict) → Tells j w → Kind w false true false false
 unfolding isWhole isDoubtful isClashing isLost
 tells-doubtful {j} {p} z (whole P) e = absurd (omega (arith, doubt-least (placeNamed p), ap judgedNumber z))
 tells-doubtful z (doubtful d P) e = record { whole = refl; doubtful = refl; clashing = refl; lost = refl }
@@ -109,6 +103,31 @@ counts-one w z c ek el em en = λ i. record {
   lost = (en ∙ ap (λ (y : Bool). addIf y (c .lost)) (sym (z .lost))) i;
   health = c .health;
 }
+
+-- ---- the list
+
+listed-next : (w : ℕ → Verdict) (n : ℕ) → listed w (suc n) ≡ cond (isWhole (w n)) (listed w n) (listed w n ++ n ∷ [])
+unfolding listed chosen
+listed-next w n = go (isWhole (w n))
+  where
+    l : List ℕ
+    l = chosen (λ i. not (isWhole (w i))) n
+
+    go : (b : Bool) → cond (not b) (l ++ n ∷ []) l ≡ cond b l (l ++ n ∷ [])
+    go true = refl
+    go false = refl
+
+listed-none : (w : ℕ → Verdict) → listed w 0 ≡ []
+unfolding listed chosen
+listed-none w = refl
+
+length-listed : (w : ℕ → Verdict) (n : ℕ) → length (listed w n) + tally isWhole w n ≡ n
+length-listed w zero = omega (arith, ap length (listed-none w), tally-none isWhole w)
+length-listed w (suc n) = rw (listed-next w n, tally-next isWhole w n) (go (isWhole (w n)) (length-listed w n))
+  where
+    go : (b : Bool) → length (listed w n) + tally isWhole w n ≡ n → length (cond b (listed w n) (listed w n ++ n ∷ [])) + addIf b (tally isWhole w n) ≡ suc n
+    go true e = omega arith
+    go false e = simp length-append (omega arith)
 
 -- ---- the loop
 
@@ -231,60 +250,3 @@ pub survey-keyed : (k : List ℕ) (r : Prepared) → PreparedFor k r → (s n : 
     → surveyed (verdictBy (schemeOf (r .words) (r .powers)) s l g x) n list ≡ a → surveyed (verdictAt (mirror (key k)) s (triple l g x)) n list ≡ a
 unfolding judge grade fitsTwo fits candidate mirror
 survey-keyed k r e s n l g x list d = sym (ap (λ (S : Scheme). surveyed (verdictBy S s l g x) n list) (scheme-is k r e)) ∙ d
-
--- ---- the refusals
-
--- what passing them shows
-pub tests : (v : Triple) (k : Key) (s n room : ℕ) → firstOf (surveyRules k s n (isShape s n v) room) ≡ none → Common v k s n × (n ≤ room)
-tests v k s n room e =
-    let every : List Rule = volumeRules k s (isShape s n v) in
-    let eleven : List Rule = rule 11 (ltb room n) ∷ [] in
-    (common v k s n (none-left eleven every e), ltb-false room n (only-rule (ltb room n) 11 (none-right eleven every e)))
-
-module _ (v : Triple) (k : Key) (s n : ℕ) (list : List ℕ) where
-  abbrev rules : List Rule
-  rules = surveyRules k s n (isShape s n v) (length list)
-
-  pub survey-passes : firstOf rules ≡ none → {x : Report × List ℕ} → surveyed (verdictAt (mirror k) s v) n list ≡ x → surveyOutcome v k s n list ≡ x
-  unfolding surveyOutcome
-  survey-passes e d = ap (λ (o : Option ℕ). settleBy refused o (surveyed (verdictAt (mirror k) s v) n list) list) e ∙ d
-
-  pub survey-refused : {m : ℕ} → firstOf rules ≡ some m → surveyOutcome v k s n list ≡ (refused m, list)
-  unfolding surveyOutcome
-  survey-refused e = ap (λ (o : Option ℕ). settleBy refused o (surveyed (verdictAt (mirror k) s v) n list) list) e
-
--- ---- the checks, by what they answer
-
--- of a volume of these lengths, and of a list
-module _ (k : Key) (s n l g r room : ℕ) where
-  abbrev every : List Rule
-  every = volumeRules k s (shape s n l g r)
-
-  abbrev eleven : List Rule
-  eleven = rule 11 (ltb room n) ∷ []
-
-  pub list-short : {d : Done} → firstOf every ≡ doneOption d → d ≡ D.Done → room < n → firstOf (every ++ eleven) ≡ some 11
-  list-short e z h = check-passed eleven every e z ∙ simp (lt-ltb room n h)
-
-  pub list-enough : {d : Done} → firstOf every ≡ doneOption d → d ≡ D.Done → n ≤ room → firstOf (every ++ eleven) ≡ none
-  list-enough e z h = check-passed eleven every e z ∙ simp (le-ltb room n h)
-
-  pub volume-refused : {d : Done} {f : Refusal} → firstOf every ≡ doneOption d → d ≡ D.Refused f → firstOf (every ++ eleven) ≡ some (refusalNumber f)
-  volume-refused e z = check-refused eleven every e z
-
--- of these images and this list
-module _ (k l g r list : List ℕ) (s n : ℕ) {d : Done} (e : firstOf (surveyRules (key k) s n (shape s n (length l) (length g) (length r)) (length list)) ≡ doneOption d) where
-  pub checked-room : d ≡ D.Done → (length k ≡ 32) × Room s n (length l) (length g) (length r) × (n ≤ length list)
-  unfolding isShape
-  checked-room z =
-      let t = tests (triple l g r) (key k) s n (length list) (e ∙ ap doneOption z) in
-      let (size, room) = has-room (triple l g r) (key k) s n (t .0) in
-      (size, room, t .1)
-
-  pub checked-counted : {x : Report × List ℕ} → d ≡ D.Done → surveyed (verdictAt (mirror (key k)) s (triple l g r)) n list ≡ x → surveyOutcome (triple l g r) (key k) s n list ≡ x
-  unfolding isShape
-  checked-counted z c = survey-passes (triple l g r) (key k) s n list (e ∙ ap doneOption z) c
-
-  pub checked-refused : {f : Refusal} → d ≡ D.Refused f → surveyOutcome (triple l g r) (key k) s n list ≡ (refused (refusalNumber f), list)
-  unfolding isShape
-  checked-refused z = survey-refused (triple l g r) (key k) s n list (e ∙ ap doneOption z)

@@ -1,7 +1,7 @@
--- Laws of the survey's counts, of its list and of the health. Assumes nothing.
+-- Laws of the numbers that pass a test, of their counts and of the health. Assumes nothing.
 use mathlib.Core.Path.{_≡_, refl, sym, ap, _∙_}
 use mathlib.Core.Logic.{_⊎_, inl, inr, ⊎-elim, _↔_}
-use mathlib.Core.Bool.{Bool, true, false, not, cond}
+use mathlib.Core.Bool.{Bool, true, false, cond}
 use mathlib.Core.List.{List, [], _∷_, _++_, List·Memᴰ, List·Memᴰ·head, List·Memᴰ·not-nil, List·Memᴰ·append-cases, List·Memᴰ·eq-of-singleton, Memᴰ·append-left, Memᴰ·append-right}
 use Prim.Native.Nat.{ℕ, zero, suc, _+_, _*_, _/_, _<_, _≤_}
 use native.Mathlib.Decide.{ℕ-discrete, decLt}
@@ -12,10 +12,51 @@ use lib.Seq.{getD-at}
 use Rattle.block.proofs.Lists.{false-true, clash}
 use Rattle.verdict.specs.Verdict.{Verdict, whole, doubtful, lost, clashing}
 use Rattle.history.specs.Answers.{isWhole, isDoubtful, isClashing, isLost}
-use Rattle.survey.specs.Survey.{chosen, tally, listed, health, Rises, Lists}
+use Rattle.survey.specs.Survey.{chosen, tally, health, Rises, Lists}
 use Rattle.survey.specs.Inner.{addIf}
 
 -- ---- the numbers that pass a test
+
+-- an entry of a list with one number more
+snoc-at : (l : List ℕ) (x j : ℕ) → j < length (l ++ x ∷ [])
+    → ((j < length l) × (getD (l ++ x ∷ []) j 0 ≡ getD l j 0)) ⊎ ((length l ≡ j) × (getD (l ++ x ∷ []) j 0 ≡ x))
+snoc-at l x j h = go (decLt j (length l))
+  where
+    go : Dec (j < length l) → ((j < length l) × (getD (l ++ x ∷ []) j 0 ≡ getD l j 0)) ⊎ ((length l ≡ j) × (getD (l ++ x ∷ []) j 0 ≡ x))
+    go (yes k) = inl (k, List·getD-append l (x ∷ []) 0 j k)
+    go (no k) =
+        let m : j < length l + 1 = simp length-append at h in
+        let e : length l ≡ j = omega arith in
+        inr (e, getD-at l x [] 0 j e)
+
+-- it rises, and lies below n
+record Climbs (n : ℕ) (l : List ℕ) : Type 0 where
+  rises : Rises l
+  below : (j : ℕ) → j < length l → getD l j 0 < n
+
+climbs-more : (n : ℕ) (l : List ℕ) → Climbs n l → Climbs (suc n) l
+climbs-more n l z = record { rises = z .rises; below = λ j h. let k = z .below j h in omega arith }
+
+climbs-snoc : (n : ℕ) (l : List ℕ) → Climbs n l → Climbs (suc n) (l ++ n ∷ [])
+climbs-snoc n l z = record {
+  rises = λ i j h k. ⊎-elim (inside i j h) (behind i j h) (snoc-at l n j k);
+  below = λ j k. ⊎-elim (λ a. let y = z .below j (a .0) in omega (arith, a .1)) (λ a. omega (arith, a .1)) (snoc-at l n j k);
+}
+  where
+    inside : (i j : ℕ) → i < j → (j < length l) × (getD (l ++ n ∷ []) j 0 ≡ getD l j 0) → getD (l ++ n ∷ []) i 0 < getD (l ++ n ∷ []) j 0
+    inside i j h a = let y = z .rises i j h (a .0) in omega (arith, a .1, List·getD-append l (n ∷ []) 0 i (omega (arith, a .0)))
+
+    behind : (i j : ℕ) → i < j → (length l ≡ j) × (getD (l ++ n ∷ []) j 0 ≡ n) → getD (l ++ n ∷ []) i 0 < getD (l ++ n ∷ []) j 0
+    behind i j h a = let lt : i < length l = omega (arith, a .0) in let y = z .below i lt in omega (arith, a .1, List·getD-append l (n ∷ []) 0 i lt)
+
+chosen-climbs : (p : ℕ → Bool) (n : ℕ) → Climbs n (chosen p n)
+unfolding chosen
+chosen-climbs p zero = record { rises = λ i j h k. absurd (omega arith); below = λ j h. absurd (omega arith) }
+chosen-climbs p (suc n) = go (p n) (chosen-climbs p n)
+  where
+    go : (b : Bool) → Climbs n (chosen p n) → Climbs (suc n) (cond b (chosen p n ++ n ∷ []) (chosen p n))
+    go true z = climbs-snoc n (chosen p n) z
+    go false z = climbs-more n (chosen p n) z
 
 -- what is chosen is below n and passes,
 chosen-passes : (p : ℕ → Bool) (n i : ℕ) → List·Memᴰ i (chosen p n) → (i < n) × (p i ≡ true)
@@ -46,47 +87,6 @@ passes-chosen p (suc n) i h e = go (p n) refl (ℕ-discrete i n) (λ lt. passes-
     go false d (yes z) r = clash e (ap p z ∙ d)
     go false d (no z) r = r (omega arith)
 
--- an entry of a list with one number more
-snoc-at : (l : List ℕ) (x j : ℕ) → j < length (l ++ x ∷ [])
-    → ((j < length l) × (getD (l ++ x ∷ []) j 0 ≡ getD l j 0)) ⊎ ((length l ≡ j) × (getD (l ++ x ∷ []) j 0 ≡ x))
-snoc-at l x j h = go (decLt j (length l))
-  where
-    go : Dec (j < length l) → ((j < length l) × (getD (l ++ x ∷ []) j 0 ≡ getD l j 0)) ⊎ ((length l ≡ j) × (getD (l ++ x ∷ []) j 0 ≡ x))
-    go (yes k) = inl (k, List·getD-append l (x ∷ []) 0 j k)
-    go (no k) =
-        let m : j < length l + 1 = simp length-append at h in
-        let e : length l ≡ j = omega arith in
-        inr (e, getD-at l x [] 0 j e)
-
-chosen-below : (p : ℕ → Bool) (n j : ℕ) → j < length (chosen p n) → getD (chosen p n) j 0 < n
-unfolding chosen
-chosen-below p zero j h = absurd (omega arith)
-chosen-below p (suc n) j h = go (p n) h (chosen-below p n j)
-  where
-    go : (b : Bool) → j < length (cond b (chosen p n ++ n ∷ []) (chosen p n)) → (j < length (chosen p n) → getD (chosen p n) j 0 < n)
-        → getD (cond b (chosen p n ++ n ∷ []) (chosen p n)) j 0 < suc n
-    go true k r = ⊎-elim (λ a. let z = r (a .0) in omega (arith, a .1)) (λ a. omega (arith, a .1)) (snoc-at (chosen p n) n j k)
-    go false k r = let z = r k in omega arith
-
--- a list that rises and lies below x still rises with x behind it
-rises-snoc : (l : List ℕ) (x : ℕ) → Rises l → ((j : ℕ) → j < length l → getD l j 0 < x) → Rises (l ++ x ∷ [])
-rises-snoc l x up below i j h k = ⊎-elim inside behind (snoc-at l x j k)
-  where
-    inside : (j < length l) × (getD (l ++ x ∷ []) j 0 ≡ getD l j 0) → getD (l ++ x ∷ []) i 0 < getD (l ++ x ∷ []) j 0
-    inside a = let z = up i j h (a .0) in omega (arith, a .1, List·getD-append l (x ∷ []) 0 i (omega (arith, a .0)))
-
-    behind : (length l ≡ j) × (getD (l ++ x ∷ []) j 0 ≡ x) → getD (l ++ x ∷ []) i 0 < getD (l ++ x ∷ []) j 0
-    behind a = let lt : i < length l = omega (arith, a .0) in let z = below i lt in omega (arith, a .1, List·getD-append l (x ∷ []) 0 i lt)
-
-chosen-rises : (p : ℕ → Bool) (n : ℕ) → Rises (chosen p n)
-unfolding chosen
-chosen-rises p zero = λ i j h k. absurd (omega arith)
-chosen-rises p (suc n) = go (p n) (chosen-rises p n)
-  where
-    go : (b : Bool) → Rises (chosen p n) → Rises (cond b (chosen p n ++ n ∷ []) (chosen p n))
-    go true r = rises-snoc (chosen p n) n r (chosen-below p n)
-    go false r = r
-
 -- the test passes the numbers that have a property
 pub chosen-lists : (P : ℕ → Type 0) (p : ℕ → Bool) (n : ℕ) → ((i : ℕ) → i < n → (p i ≡ true) ↔ P i) → Lists P n (chosen p n)
 chosen-lists P p n t = record {
@@ -94,7 +94,7 @@ chosen-lists P p n t = record {
     λ m. let x = chosen-passes p n i m in (x .0, t i (x .0) .0 (x .1)),
     λ x. passes-chosen p n i (x .0) (t i (x .0) .1 (x .1)),
   );
-  rises = chosen-rises p n;
+  rises = chosen-climbs p n .rises;
 }
 
 -- ---- counts
@@ -161,31 +161,6 @@ apart is it h w (suc n) e =
     go true false d k = omega arith
     go false true d k = omega arith
     go false false d k = omega arith
-
--- ---- the list
-
-pub listed-next : (w : ℕ → Verdict) (n : ℕ) → listed w (suc n) ≡ cond (isWhole (w n)) (listed w n) (listed w n ++ n ∷ [])
-unfolding listed chosen
-listed-next w n = go (isWhole (w n))
-  where
-    l : List ℕ
-    l = chosen (λ i. not (isWhole (w i))) n
-
-    go : (b : Bool) → cond (not b) (l ++ n ∷ []) l ≡ cond b l (l ++ n ∷ [])
-    go true = refl
-    go false = refl
-
-pub listed-none : (w : ℕ → Verdict) → listed w 0 ≡ []
-unfolding listed chosen
-listed-none w = refl
-
-pub length-listed : (w : ℕ → Verdict) (n : ℕ) → length (listed w n) + tally isWhole w n ≡ n
-length-listed w zero = omega (arith, ap length (listed-none w), tally-none isWhole w)
-length-listed w (suc n) = rw (listed-next w n, tally-next isWhole w n) (go (isWhole (w n)) (length-listed w n))
-  where
-    go : (b : Bool) → length (listed w n) + tally isWhole w n ≡ n → length (cond b (listed w n) (listed w n ++ n ∷ [])) + addIf b (tally isWhole w n) ≡ suc n
-    go true e = omega arith
-    go false e = simp length-append (omega arith)
 
 -- ---- health
 

@@ -5,17 +5,19 @@ use verdict::Done;
 use verdict::Judged;
 use verdict::Refusal;
 ghost use mathlib.Core.Path.{_≡_};
+ghost use mathlib.Core.List.{[], _∷_};
 ghost use Prim.Native.Nat.{_<_, _≤_};
+ghost use lib.Dec.{ltb};
 ghost use lib.ListN.{length};
 ghost use Rattle.mode.specs.Prepared.{Ready};
-ghost use Rattle.verdict.specs.Answers.{firstOf, doneOption};
+ghost use Rattle.verdict.specs.Answers.{rule, firstOf, doneOption};
 ghost use Rattle.verdict.specs.Judging.{schemeOf};
 ghost use Rattle.verdict.specs.Judging as C;
 ghost use Rattle.history.specs.Volume.{mirror};
 ghost use Rattle.history.specs.Volume as W;
 ghost use Rattle.images.specs.Lent.{Room, Within};
 ghost use Rattle.survey.specs.Survey.{surveyRules, verdictAt, health, counted, surveyed, reportOf, surveyOutcome};
-ghost use Rattle.survey.specs.Inner.{verdictBy, Tells, CountsOne, ListsOne};
+ghost use Rattle.survey.specs.Inner.{orElse, verdictBy, Tells, CountsOne, ListsOne};
 
 // How many sectors have each verdict, and the whole ones in thousandths.
 pub struct Counts {
@@ -32,19 +34,33 @@ pub enum Surveyed {
     Refused(Refusal),
 }
 
+// Refusal 11: a list of `room` numbers that is shorter than n.
+fn check_list(n: usize, room: usize) -> Done
+    ensures { λ d. ⌜ firstOf (rule 11 (ltb room n) ∷ []) ≡ doneOption d ⌝ }
+{
+    if room < n {
+        Done::Refused(Refusal::ListLength)
+    } else {
+        Done::Done
+    }
+}
+
+fn first_refusal(earlier: Done, later: Done) -> Done
+    ensures { λ d. ⌜ orElse (doneOption earlier) (doneOption later) ≡ doneOption d ⌝ }
+{
+    match earlier {
+        Done::Done => later,
+        Done::Refused(f) => Done::Refused(f),
+    }
+}
+
 // Refusals 1, 2, 8 and 11 of a survey with a list of this length.
 fn check_survey(key: &[u8], s: usize, n: usize, l: usize, g: usize, r: usize, room: usize) -> Done
     ensures { λ d. ⌜ firstOf (surveyRules (C.key (now (key .entry))) s n (W.shape s n l g r) room) ≡ doneOption d ⌝ }
 {
-    let checked = history::check_volume(key, s, n, l, g, r);
-    match checked {
-        Done::Done => if room < n {
-            Done::Refused(Refusal::ListLength)
-        } else {
-            Done::Done
-        },
-        Done::Refused(f) => Done::Refused(f),
-    }
+    let volume = history::check_volume(key, s, n, l, g, r);
+    let list = check_list(n, room);
+    first_refusal(volume, list)
 }
 
 // Judges sector i; m is the context of any sector, since only the tweak differs.

@@ -1,5 +1,4 @@
-use native.Mathlib.Omega.{arith}
-use Rattle.survey.proofs.Surveying.{list-short, list-enough, volume-refused}
+use Rattle.survey.proofs.Checks.{checked-first}
 use borrow.Author.Needs.{needs}
 use Rattle.survey.proofs.check_survey.Statement.{statement}
 use Rattle.survey.proofs.check_survey.Tie as tie
@@ -7,21 +6,15 @@ use Rattle.survey.proofs.check_survey.Tie as tie
 check-volume-requires : tie.Need-check-volume-requires
 check-volume-requires c κs = search needs
 
-enum-told : tie.Need-enum-told
-enum-told c = search needs
+check-list-requires : tie.Need-check-list-requires
+check-list-requires c κs = search needs
 
-enum-known-checked : tie.Need-enum-known-checked
-enum-known-checked c = search needs
+first-refusal-requires : tie.Need-first-refusal-requires
+first-refusal-requires c κs = search needs
 
 returns : tie.Need-returns
-returns c = list-short _ _ _ _ _ _ _ (c .before .before .before .check-volume .ensures) (c .before .enum-told .given .1) (c .if1 .taken)
-
-returns-2 : tie.Need-returns-2
-returns-2 c = list-enough _ _ _ _ _ _ _ (c .before .before .before .check-volume .ensures) (c .before .enum-told .given .1) (omega arith)
-
-returns-3 : tie.Need-returns-3
-returns-3 c = volume-refused _ _ _ _ _ _ _ (c .before .before .before .check-volume .ensures) (c .before .checked .given .1)
+returns c = checked-first _ _ _ _ _ _ _ (c .before .before .check-volume .ensures) (c .before .check-list .ensures) (c .first-refusal .ensures)
 
 pub check-survey-spec : {M : Type 1} → statement M
 check-survey-spec =
-    tie.close (tie.spec check-volume-requires enum-told enum-known-checked returns returns-2 returns-3)
+    tie.close (tie.spec check-volume-requires check-list-requires first-refusal-requires returns)

@@ -1,4 +1,4 @@
-use Rattle.survey.proofs.Surveying.{checked-room, checked-counted, checked-refused}
+use Rattle.survey.proofs.Checks.{checked-room, checked-counted, checked-refused}
 use borrow.Author.Needs.{needs}
 use Rattle.survey.proofs.survey.Statement.{statement}
 use Rattle.survey.proofs.survey.Tie as tie
