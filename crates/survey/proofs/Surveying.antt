@@ -104,6 +104,10 @@ counts-one w z c ek el em en = λ i. record {
   health = c .health;
 }
 
+-- the list with one sector more
+pub lists-one : {j : Judged} (at i : ℕ) (old : List ℕ) (b : Bool) → ((w : Verdict) → Tells j w → isWhole w ≡ b) → ListsOne j at i old (cond b old (set old at i))
+lists-one at i old b z w e = ap (λ (x : Bool). cond x old (set old at i)) (sym (z w e))
+
 -- ---- the list
 
 listed-next : (w : ℕ → Verdict) (n : ℕ) → listed w (suc n) ≡ cond (isWhole (w n)) (listed w n) (listed w n ++ n ∷ [])

@@ -36,15 +36,13 @@ add-next-4 : tie.Need-add-next-4
 add-next-4 c = search needs
 
 returns : tie.Need-returns
-returns c = let a = c .before .before .before .args in λ w e. counts-one w (tells-whole (c .before .enum-told .given .1) w e) (a .c) (add-one _) refl refl refl
+returns c = λ w e. counts-one w (tells-whole (c .before .enum-told .given .1) w e) _ (add-one _) refl refl refl
 
 returns-2 : tie.Need-returns-2
-returns-2 c = let a = c .before .before .before .args in λ w e. counts-one w (tells-doubtful (c .before .enum-told2 .given .1) w e) (a .c) refl (add-one _) refl refl
+returns-2 c = λ w e. counts-one w (tells-doubtful (c .before .enum-told2 .given .1) w e) _ refl (add-one _) refl refl
 
 returns-3 : tie.Need-returns-3
-returns-3 c =
-    let a = c .before .before .before .before .before .before .args in
-    λ w e. counts-one w (tells-lost (c .before .before .before .before .judged .given .1) (c .before .enum-told3 .given .1) w e) (a .c) refl refl refl (add-one _)
+returns-3 c = λ w e. counts-one w (tells-lost (c .before .before .before .before .judged .given .1) (c .before .enum-told3 .given .1) w e) _ refl refl refl (add-one _)
 
 -- the enum's tags but that of lost
 others : List ℕ
@@ -52,9 +50,7 @@ others = 0 ∷ 1 ∷ 2 ∷ 3 ∷ 4 ∷ 6 ∷ 7 ∷ 8 ∷ 9 ∷ 10 ∷ 11 ∷ []
 
 returns-4 : tie.Need-returns-4
 unfolding others
-returns-4 c =
-    let a = c .before .before .before .before .before .args in
-    λ w e. counts-one w (tells-clashing (c .before .before .before .judged .given .1) (λ d. miss others 5 tt (subst (λ (f : Refusal). OneOf others (tagOf the-type f)) d (c .before .match2 .keys2))) w e) (a .c) refl refl (add-one _) refl
+returns-4 c = λ w e. counts-one w (tells-clashing (c .before .before .before .judged .given .1) (λ d. miss others 5 tt (subst (λ (f : Refusal). OneOf others (tagOf the-type f)) d (c .before .match2 .keys2))) w e) _ refl refl (add-one _) refl
 
 pub count-verdict-spec : {M : Type 1} → statement M
 count-verdict-spec =

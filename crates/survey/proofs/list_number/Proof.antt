@@ -1,7 +1,5 @@
-use mathlib.Core.Path.{sym, ap}
-use mathlib.Core.Bool.{Bool, cond}
-use lib.ListN.{set}
-use Rattle.survey.proofs.Surveying.{tells-whole, tells-doubtful, tells-refused}
+use mathlib.Core.Bool.{true, false}
+use Rattle.survey.proofs.Surveying.{tells-whole, tells-doubtful, tells-refused, lists-one}
 use borrow.Author.Needs.{needs}
 use Rattle.survey.proofs.list_number.Statement.{statement}
 use Rattle.survey.proofs.list_number.Tie as tie
@@ -34,25 +32,19 @@ slice-write-list-2 : tie.Need-slice-write-list-2
 slice-write-list-2 c = search needs
 
 returns : tie.Need-returns
-returns c =
-    let a = c .before .before .args in
-    λ w e. ap (λ (x : Bool). cond x (a .list .now) (set (a .list .now) (a .at) (a .i))) (sym (tells-whole (c .enum-told .given .1) w e .whole))
+returns c = lists-one _ _ _ true (λ w e. tells-whole (c .enum-told .given .1) w e .whole)
 
 same-length : tie.Need-same-length
 same-length c = search needs
 
 returns-2 : tie.Need-returns-2
-returns-2 c =
-    let a = c .before .before .args in
-    λ w e. ap (λ (x : Bool). cond x (a .list .now) (set (a .list .now) (a .at) (a .i))) (sym (tells-doubtful (c .enum-told2 .given .1) w e .whole))
+returns-2 c = lists-one _ _ _ false (λ w e. tells-doubtful (c .enum-told2 .given .1) w e .whole)
 
 same-length-2 : tie.Need-same-length-2
 same-length-2 c = search needs
 
 returns-3 : tie.Need-returns-3
-returns-3 c =
-    let a = c .before .before .args in
-    λ w e. ap (λ (x : Bool). cond x (a .list .now) (set (a .list .now) (a .at) (a .i))) (sym (tells-refused (c .enum-told3 .given .1) w e .whole))
+returns-3 c = lists-one _ _ _ false (λ w e. tells-refused (c .enum-told3 .given .1) w e .whole)
 
 pub list-number-spec : {M : Type 1} → statement M
 list-number-spec =
