@@ -15,7 +15,7 @@ use Rattle.history.specs.Answers.{isWhole}
 use Rattle.history.specs.HistoryFrom.{AnyBytes}
 use Rattle.history.specs.Volume.{isShape, mirror}
 use Rattle.survey.specs.declared.Counts.{Counts}
-use Rattle.survey.specs.Survey.{tally, health, countsOf, written, Report, refused, counted, verdictAt, surveyed, surveyRefusal, surveyOutcome, ByFitting}
+use Rattle.survey.specs.Survey.{tally, health, countsOf, written, Report, refused, verdictAt, surveyed, surveyRefusal, surveyOutcome, ByFitting}
 use Rattle.survey.proofs.SurveyFacts.{survey-facts}
 use Rattle.mirror.specs.Survey.{numbers, surveyResult, SurveyNumbers}
 

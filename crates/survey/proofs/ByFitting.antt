@@ -10,7 +10,7 @@ use borrow.Author.Tests.{not-true}
 use Rattle.block.proofs.Lists.{false-true, clash}
 use Rattle.mode.specs.Scheme.{Place, Scheme, Sector}
 use Rattle.mode.specs.Sealing.{Triple, Key}
-use Rattle.verdict.specs.Answers.{firstOf, settleBy}
+use Rattle.verdict.specs.Answers.{settleBy}
 use Rattle.verdict.specs.Verdict.{Verdict, whole, doubtful, lost, clashing, Means, judge, JudgeExact}
 use Rattle.verdict.proofs.JudgeExact.{judge-exact}
 use Rattle.history.specs.Answers.{isWhole, isDoubtful, isClashing, isLost}
@@ -121,7 +121,7 @@ module _ (v : Triple) (bytes : AnyBytes v) (k : Key) (s n : ℕ) (o : Common v k
   unfolding tally
   many P is t = (chosen (λ i. is (w i)) n, chosen-lists P (λ i. is (w i)) n t, refl)
 
-  pub accepted-fitting : (list : List ℕ) → ByFitting k s n v list (countsOf (verdictAt (mirror k) s v) n (health (tally isWhole (verdictAt (mirror k) s v) n) n)) (written (verdictAt (mirror k) s v) n list)
+  accepted-fitting : (list : List ℕ) → ByFitting k s n v list (countsOf (verdictAt (mirror k) s v) n (health (tally isWhole (verdictAt (mirror k) s v) n) n)) (written (verdictAt (mirror k) s v) n list)
   unfolding w health listed
   accepted-fitting list = record {
     whole-count = many (WholeAt k s v) isWhole whole-at;

@@ -158,13 +158,13 @@ surveys w old i c list e d z = record {
 }
 
 module _ (w : ℕ → Verdict) (old : List ℕ) where
-  pub surveys-none : Surveys w old 0 (record { whole = 0; doubtful = 0; clashing = 0; lost = 0; health = 0 }) old
+  surveys-none : Surveys w old 0 (record { whole = 0; doubtful = 0; clashing = 0; lost = 0; health = 0 }) old
   unfolding tally listed chosen
   surveys-none = surveys w old 0 _ old refl refl refl
 
   module _ (i : ℕ) where
     -- the next entry is behind those that are written
-    pub entry : {c : Counts} {list : List ℕ} → Surveys w old i c list → i - c .whole ≡ length (listed w i)
+    entry : {c : Counts} {list : List ℕ} → Surveys w old i c list → i - c .whole ≡ length (listed w i)
     entry v = let e : _ ≡ tally isWhole w i = ap (λ (x : Counts). x .whole) (v .counts) in omega (arith, length-listed w i)
 
     counts-next : {c d : Counts} → c ≡ countsOf w i 0 → d ≡ counting (w i) c → d ≡ countsOf w (suc i) 0
@@ -190,7 +190,7 @@ module _ (w : ℕ → Verdict) (old : List ℕ) where
             ∙ sym (append-assoc l (i ∷ []) (drop (suc (length l)) old))
             ∙ ap (λ (k : ℕ). (l ++ i ∷ []) ++ drop k old) (sym (length-append l (i ∷ []) ∙ add-one (length l)))
 
-    pub surveys-next : {c d : Counts} {list new : List ℕ} (j : Judged) → Surveys w old i c list → i < length old → Tells j (w i)
+    surveys-next : {c d : Counts} {list new : List ℕ} (j : Judged) → Surveys w old i c list → i < length old → Tells j (w i)
         → CountsOne j c d → ListsOne j (i - c .whole) i list new → length new ≡ length list → Surveys w old (i + 1) d new
     surveys-next {c} {d} {list} {new} j v h e f g z =
         let at : i - c .whole ≡ length (listed w i) = entry v in
