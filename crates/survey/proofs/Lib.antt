@@ -1,4 +1,5 @@
 pub mod Tallies
+pub mod Once
 pub mod Checks
 pub mod ByFitting
 pub mod SurveyFacts

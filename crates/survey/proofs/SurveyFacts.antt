@@ -20,6 +20,7 @@ use Rattle.survey.specs.declared.Counts.{Counts}
 use Rattle.survey.specs.Survey.{tally, Report, refused, counted, verdictAt, surveyOutcome, LostAt, isKept, SurveyFacts}
 use Rattle.survey.proofs.ByFitting.{of-outcome, lost-at, by-fitting}
 use Rattle.survey.proofs.Checks.{survey-passes, survey-refused}
+use Rattle.survey.proofs.Once.{lists-once}
 use Rattle.survey.proofs.Tallies.{all-counted, apart}
 
 -- ---- after a list of events
@@ -75,6 +76,7 @@ module _ (vol : Volume) (v : Triple) (bytes : AnyBytes v) (es : List Event) (all
 
 pub survey-facts : SurveyFacts
 survey-facts = record {
+  lists-once = lists-once;
   refuses = λ v k s n list m. survey-refused v k s n list;
   answers = λ v k s n list e. survey-passes v k s n list e refl;
   by-fitting = by-fitting;

@@ -69,6 +69,10 @@ reportOf (Refused r) = refused (refusalNumber r)
 abbrev pub surveyRules : Key → ℕ → ℕ → Bool → ℕ → List Rule
 surveyRules k s n right room = volumeRules k s right ++ rule 11 (ltb room n) ∷ []
 
+-- the refusal of a survey of the images v with a list of this length, if it is refused
+abbrev pub surveyRefusal : Triple → Key → ℕ → ℕ → ℕ → Option ℕ
+surveyRefusal v k s n room = firstOf (surveyRules k s n (isShape s n v) room)
+
 -- the verdict on sector i of the images v
 abbrev pub verdictAt : Scheme → ℕ → Triple → ℕ → Verdict
 verdictAt S s v i = judge S i (sectorOf s i v)
@@ -80,7 +84,7 @@ surveyed w n list = (counted (countsOf w n (health (tally isWhole w n) n)), writ
 -- a refusal leaves the list as it was
 unfoldable pub surveyOutcome : Triple → Key → ℕ → ℕ → List ℕ → Report × List ℕ
 surveyOutcome v k s n list =
-    settleBy refused (firstOf (surveyRules k s n (isShape s n v) (length list))) (surveyed (verdictAt (mirror k) s v) n list) list
+    settleBy refused (surveyRefusal v k s n (length list)) (surveyed (verdictAt (mirror k) s v) n list) list
 
 -- ---- the same by fitting (document 01, "The verdict"), without judging
 
@@ -136,11 +140,9 @@ unfoldable pub isKept : Held → Bool
 isKept gone = false
 isKept (kept P d) = true
 
--- the refusal of a survey of the images v with a list of this length, if it is refused
-abbrev pub surveyRefusal : Triple → Key → ℕ → ℕ → ℕ → Option ℕ
-surveyRefusal v k s n room = firstOf (surveyRules k s n (isShape s n v) room)
-
-pub record SurveyFacts : Type 0 where
+pub record SurveyFacts : Type 1 where
+  -- there is one such list, so there is one such count
+  pub lists-once : (P : ℕ → Type 0) (n : ℕ) (l m : List ℕ) → Lists P n l → Lists P n m → l ≡ m
   -- a refused survey leaves the list; any other answers with the counts of its verdicts
   pub refuses : (v : Triple) (k : Key) (s n : ℕ) (list : List ℕ) (m : ℕ) → surveyRefusal v k s n (length list) ≡ some m
       → surveyOutcome v k s n list ≡ (refused m, list)
