@@ -1,5 +1,5 @@
 -- What passing refusals 1, 2 and 8 shows of the images' lengths. Assumes nothing.
-use mathlib.Core.Path.{_≡_}
+use mathlib.Core.Path.{_≡_, sym, subst}
 use Prim.Native.Nat.{ℕ, _<_}
 use native.Mathlib.Omega.{arith}
 use lib.ListN.{length}
@@ -21,3 +21,6 @@ within-room s n i l g r z h =
     let p = part-end s n i h in
     let q = part-end 16 n i h in
     record { blocks = z .blocks; most = z .most; number = omega arith; local-end = omega arith; tag-end = omega arith; remote-end = omega arith }
+
+pub within-same : {m s i l g r : ℕ} → m ≡ s → Within s i l g r → Within m i l g r
+within-same {i = i} {l} {g} {r} e z = subst (λ (n : ℕ). Within n i l g r) (sym e) z

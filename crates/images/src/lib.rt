@@ -12,7 +12,8 @@ ghost use Rattle.block.specs.Value.{value};
 ghost use Rattle.aes.specs.Aes.{cipherNumber};
 ghost use Rattle.aes.specs.Columns.{roundTable};
 ghost use Rattle.mode.specs.Prepared.{Ready};
-ghost use Rattle.mode.specs.Sealing.{pad, blockwise, sides};
+ghost use Rattle.mode.specs.declared.Direction.the-variants.{SealLocal};
+ghost use Rattle.mode.specs.Sealing.{pad, blockwise};
 ghost use Rattle.mode.specs.Transforms.{transformed};
 ghost use Rattle.verdict.specs.Answers.{judgedNumber};
 ghost use Rattle.verdict.specs.Judging.{judgedBy};
@@ -94,11 +95,23 @@ pub fn fits_local(
     scratch: &mut [u8],
 ) -> bool
     requires { ⌜ (now t ≡ roundTable) × (8 ≤ length (now w)) × (value beta ≡ cipherNumber (now w) 1) × (length (now p) % 16 ≡ 0) × (length (now p) ≤ 4096) × (i < 65536) × (i * length (now p) + length (now p) ≤ length (now local)) × (length (now scratch) ≡ length (now p)) ⌝ }
-    ensures { λ r. ⌜ r ≡ same (part (length (now (p .entry))) i (now (local .entry))) (sides (cipherNumber (now (w .entry))) (value g) (now (p .entry)) .local) ⌝ }
+    ensures { λ r. ⌜ r ≡ same (part (length (now (p .entry))) i (now (local .entry))) (blockwise (λ j v. transformed SealLocal (pad (cipherNumber (now (w .entry))) (value g) j) v) 1 (blocksOf (now (p .entry)))) ⌝ }
 {
     let s = p.len();
     let a = i * s;
     let e = a + s;
     mode::transform(t, w, beta, Direction::SealLocal, g, p, scratch);
     block::same(&local[a..e], &scratch[..])
+}
+
+// Whether sector i of the tags is g.
+pub fn fits_tag(g: Block, i: usize, tags: &[u8]) -> bool
+    requires { ⌜ (i < 65536) × (i * 16 + 16 ≤ length (now tags)) ⌝ }
+    ensures { λ r. ⌜ r ≡ same (part 16 i (now (tags .entry))) (toBytes 16 (value g)) ⌝ }
+{
+    let a = i * 16;
+    let e = a + 16;
+    let mut bytes = [0u8; 16];
+    block::store(&mut bytes[..], 0, g);
+    block::same(&tags[a..e], &bytes[..])
 }

@@ -1,3 +1,5 @@
+pub mod Writes
+pub mod Verdicts
 pub mod Stages
 pub mod Mends
 pub mod Keyed

@@ -1,49 +1,29 @@
 -- The stages' outcomes from what the code has worked out. Assumes nothing.
-use mathlib.Core.Path.{_≡_, refl, sym, ap, _∙_}
-use mathlib.Core.Bool.{Bool, true, false, _&&_}
-use mathlib.Core.List.{List}
-use Prim.Native.Nat.{ℕ, _<_}
-use native.Mathlib.Omega.{arith}
-use Rattle.block.specs.Bytes.{patch}
+use mathlib.Core.Path.{_≡_, refl, ap, sym, _∙_}
+use mathlib.Core.Bool.{Bool, true, false, not, _&&_}
+use mathlib.Core.List.{List, [], _∷_}
+use Prim.Native.Nat.{ℕ}
+use Rattle.block.specs.Bytes.{part, patch, same}
+use Rattle.block.specs.Value.{value}
 use Rattle.block.proofs.Lists.{and-both}
-use Rattle.mode.specs.Scheme.{local, tag, Scheme}
+use Rattle.aes.specs.Aes.{cipherNumber}
+use Rattle.hash.specs.Powers.{keyOf}
+use Rattle.mode.specs.declared.Context.{Context}
+use Rattle.mode.specs.Scheme.{Place, local, tag, remote, on, wide, Scheme}
+use Rattle.mode.specs.Sealing.{Triple, tagBlock}
 use Rattle.verdict.specs.declared.Judged.{Judged}
 use Rattle.verdict.specs.declared.Judged.the-variants as J
-use Rattle.verdict.specs.declared.Place.{Place}
+use Rattle.verdict.specs.declared.Place as D
 use Rattle.verdict.specs.declared.Refusal.{Refusal}
-use Rattle.verdict.specs.Answers.{doubtNumber, refusalNumber, placeNamed, judgedNumber}
-use Rattle.verdict.specs.Judging.{verdictOutcome, schemeOf}
-use Rattle.verdict.specs.Verdict.{Verdict, whole, doubtful, lost, clashing, fits, judge}
-use Rattle.verdict.proofs.Numbers.{refusal-range, doubt-least}
-use Rattle.history.specs.Answers.{isWhole}
-use Rattle.images.specs.Lent.{placesOf}
-use Rattle.volume.specs.Inner.{stage, firstOutcome, secondOutcome, thirdOutcome}
-
--- ---- the answer of judging
-
--- the number 0 is that of whole
-zero-whole : (v : Verdict) (out o : List ℕ) → verdictOutcome v out ≡ (0, o) → isWhole v ≡ true
-unfolding isWhole
-zero-whole (whole P) out o e = refl
-zero-whole (doubtful p P) out o e = absurd (omega (arith, ap (λ (x : ℕ × List ℕ). x .0) e, doubt-least p))
-zero-whole lost out o e = absurd (omega (arith, ap (λ (x : ℕ × List ℕ). x .0) e))
-zero-whole clashing out o e = absurd (omega (arith, ap (λ (x : ℕ × List ℕ). x .0) e))
-
-some-not-whole : (v : Verdict) (out o : List ℕ) (n : ℕ) → verdictOutcome v out ≡ (n, o) → 0 < n → isWhole v ≡ false
-unfolding isWhole
-some-not-whole (whole P) out o n e h = absurd (let z : 0 ≡ n = ap (λ (x : ℕ × List ℕ). x .0) e in omega arith)
-some-not-whole (doubtful p P) out o n e h = refl
-some-not-whole lost out o n e h = refl
-some-not-whole clashing out o n e h = refl
-
-pub judged-whole : (v : Verdict) (out o : List ℕ) (j : Judged) → verdictOutcome v out ≡ (judgedNumber j, o) → j ≡ J.Whole → isWhole v ≡ true
-judged-whole v out o j e w = zero-whole v out o (e ∙ ap (λ (k : Judged). (judgedNumber k, o)) w)
-
-pub judged-doubtful : (v : Verdict) (out o : List ℕ) (j : Judged) (p : Place) → verdictOutcome v out ≡ (judgedNumber j, o) → j ≡ J.Doubtful p → isWhole v ≡ false
-judged-doubtful v out o j p e w = some-not-whole v out o (doubtNumber (placeNamed p)) (e ∙ ap (λ (k : Judged). (judgedNumber k, o)) w) (omega (arith, doubt-least (placeNamed p)))
-
-pub judged-refused : (v : Verdict) (out o : List ℕ) (j : Judged) (f : Refusal) → verdictOutcome v out ≡ (judgedNumber j, o) → j ≡ J.Refused f → isWhole v ≡ false
-judged-refused v out o j f e w = some-not-whole v out o (refusalNumber f) (e ∙ ap (λ (k : Judged). (judgedNumber k, o)) w) (refusal-range f .0)
+use Rattle.verdict.specs.Answers.{rule, firstOf, settle, judgedNumber}
+use Rattle.verdict.specs.Judging.{triple, schemeOf, judgedBy}
+use Rattle.verdict.specs.Verdict.{Verdict, fits, judge}
+use Rattle.history.specs.Answers.{done, isWhole, answerNumber}
+use Rattle.history.specs.Volume.{Call, first, second, third, sectorOf, store, late, writes, result}
+use Rattle.images.proofs.Sealed.{coded, coded-fits}
+use Rattle.volume.specs.Inner.{one, sealInto, lateOutcome}
+use Rattle.volume.proofs.Verdicts.{is-whole, is-doubtful, is-refused, refused-not-whole}
+use Rattle.volume.proofs.Writes.{one-written}
 
 -- ---- a stage
 
@@ -54,33 +34,89 @@ and-second : (a b : Bool) → b ≡ false → (a && b) ≡ false
 and-second true b e = e
 and-second false b e = refl
 
-stage-yes : {x : Bool} (new old : List ℕ) {o : List ℕ} → x ≡ true → o ≡ new → stage x new old ≡ (0, o)
-stage-yes {x} new old {o} e eo = ap (λ (t : Bool). stage t new old) e ∙ ap (λ (l : List ℕ). (0, l)) (sym eo)
+module _ (S : Scheme) (T s i : ℕ) (P : List ℕ) (v : Triple) where
+  abbrev t : Triple
+  t = sectorOf s i v
 
-stage-no : {x : Bool} (new old : List ℕ) → x ≡ false → stage x new old ≡ (10, old)
-stage-no {x} new old e = ap (λ (t : Bool). stage t new old) e
+  -- the call c is a stage: it writes P to the place q, and is refused with 10 unless x holds
+  record Stage (c : Call) (q : Place) (x : Bool) : Type 0 where
+    refuses : late S T t c ≡ rule 10 (not x) ∷ []
+    puts : writes s S T t c ≡ record { plain = P; places = one q }
+    answers : result S T t c ≡ done
 
-module _ (w p : List ℕ) (T s i : ℕ) (P l g r : List ℕ) where
-  abbrev S : Scheme
-  S = schemeOf w p
+  first-is : Stage (first P) local (isWhole (judge S T t))
+  first-is = record { refuses = refl; puts = refl; answers = refl }
 
-  pub first-yes : {o : List ℕ} → isWhole (judge S T (placesOf s i l g r)) ≡ true → o ≡ patch s i (S .sealed T P .local) l → firstOutcome S T s i P l g r ≡ (0, o)
-  first-yes e eo = stage-yes (patch s i (S .sealed T P .local) l) l e eo
+  second-is : Stage (second P) tag (fits S T t local P)
+  second-is = record { refuses = refl; puts = refl; answers = refl }
 
-  pub first-no : isWhole (judge S T (placesOf s i l g r)) ≡ false → firstOutcome S T s i P l g r ≡ (10, l)
-  first-no e = stage-no (patch s i (S .sealed T P .local) l) l e
+  third-is : Stage (third P) remote (fits S T t local P && fits S T t tag P)
+  third-is = record { refuses = refl; puts = refl; answers = refl }
 
-  pub second-yes : {o : List ℕ} → fits S T (placesOf s i l g r) local P ≡ true → o ≡ patch 16 i (S .sealed T P .tag) g → secondOutcome S T s i P l g r ≡ (0, o)
-  second-yes e eo = stage-yes (patch 16 i (S .sealed T P .tag) g) g e eo
+  stage-outcome : {c : Call} {q : Place} {x : Bool} → Stage c q x → {b : Bool} → x ≡ b → lateOutcome S T s i v c ≡ settle (firstOf (rule 10 (not b) ∷ [])) (0, sealInto S T s i P (one q) v) v
+  unfolding lateOutcome
+  stage-outcome {q = q} z e =
+      (λ j. settle (firstOf (z .refuses j)) (answerNumber (z .answers j), sealInto S T s i (z .puts j .plain) (z .puts j .places) v) v)
+      ∙ ap (λ (b : Bool). settle (firstOf (rule 10 (not b) ∷ [])) (0, sealInto S T s i P (one q) v) v) e
 
-  pub second-no : fits S T (placesOf s i l g r) local P ≡ false → secondOutcome S T s i P l g r ≡ (10, g)
-  second-no e = stage-no (patch 16 i (S .sealed T P .tag) g) g e
+-- with a prepared key
+module _ (w p : List ℕ) (m : Context) (s i : ℕ) (P l g r : List ℕ) where
+  abbrev S′ : Scheme
+  S′ = schemeOf w p
 
-  pub third-yes : {o : List ℕ} → fits S T (placesOf s i l g r) local P ≡ true → fits S T (placesOf s i l g r) tag P ≡ true → o ≡ patch s i (S .sealed T P .remote) r → thirdOutcome S T s i P l g r ≡ (0, o)
-  third-yes e f eo = stage-yes (patch s i (S .sealed T P .remote) r) r (and-both (fits S T (placesOf s i l g r) local P) (fits S T (placesOf s i l g r) tag P) e f) eo
+  abbrev T′ : ℕ
+  T′ = value (m .tweak)
 
-  pub third-no-local : fits S T (placesOf s i l g r) local P ≡ false → thirdOutcome S T s i P l g r ≡ (10, r)
-  third-no-local e = stage-no (patch s i (S .sealed T P .remote) r) r (and-first (fits S T (placesOf s i l g r) local P) (fits S T (placesOf s i l g r) tag P) e)
+  abbrev v′ : Triple
+  v′ = triple l g r
 
-  pub third-no-tag : fits S T (placesOf s i l g r) tag P ≡ false → thirdOutcome S T s i P l g r ≡ (10, r)
-  third-no-tag e = stage-no (patch s i (S .sealed T P .remote) r) r (and-second (fits S T (placesOf s i l g r) local P) (fits S T (placesOf s i l g r) tag P) e)
+  stage-done : {c : Call} {q : Place} {x : Bool} → Stage S′ T′ s i P v′ c q x → x ≡ true → {k : ℕ} → k ≡ tagBlock (cipherNumber w) (keyOf p) T′ P
+      → {o : List ℕ} → o ≡ patch (wide s q) i (coded w P k q) (on v′ q) → lateOutcome S′ T′ s i v′ c ≡ (0, store q o v′)
+  stage-done {q = q} z e ek eo = stage-outcome S′ T′ s i P v′ z e ∙ ap (λ (u : Triple). (0, u)) (sym (one-written w p T′ s i P l g r ek q eo))
+
+  stage-refused : {c : Call} {q : Place} {x : Bool} → Stage S′ T′ s i P v′ c q x → x ≡ false → lateOutcome S′ T′ s i v′ c ≡ (10, v′)
+  stage-refused z e = stage-outcome S′ T′ s i P v′ z e
+
+  -- ---- the first stage
+
+  module _ (out : List ℕ) {o : List ℕ} (j : Judged) (e : judgedBy w p m (part s i l) (part 16 i g) (part s i r) out ≡ (judgedNumber j, o)) where
+    abbrev found : Verdict
+    found = judge S′ T′ (sectorOf s i v′)
+
+    pub first-whole : j ≡ J.Whole → {k : ℕ} → k ≡ tagBlock (cipherNumber w) (keyOf p) T′ P → {x : List ℕ} → x ≡ patch s i (coded w P k local) l
+        → lateOutcome S′ T′ s i v′ (first P) ≡ (0, triple x g r)
+    unfolding isWhole
+    first-whole q = stage-done (first-is S′ T′ s i P v′) (ap isWhole (is-whole found out j e q))
+
+    pub first-doubtful : {d : D.Place} → j ≡ J.Doubtful d → lateOutcome S′ T′ s i v′ (first P) ≡ (10, v′)
+    unfolding isWhole
+    first-doubtful q = stage-refused (first-is S′ T′ s i P v′) (ap isWhole (is-doubtful found out j e q))
+
+    pub first-refused : {f : Refusal} → j ≡ J.Refused f → lateOutcome S′ T′ s i v′ (first P) ≡ (10, v′)
+    first-refused q = stage-refused (first-is S′ T′ s i P v′) (refused-not-whole found (is-refused found out j e q))
+
+  -- ---- the second and the third stage: x and y are the code's tests of the local place and of the tag
+
+  module _ {k : ℕ} (ek : k ≡ tagBlock (cipherNumber w) (keyOf p) T′ P) {x : Bool} (ex : x ≡ same (part s i l) (coded w P k local)) where
+    fits-x : x ≡ fits S′ T′ (sectorOf s i v′) local P
+    fits-x = coded-fits w p T′ P ek (sectorOf s i v′) local ex
+
+    pub second-fits : x ≡ true → {o : List ℕ} → o ≡ patch 16 i (coded w P k tag) g → lateOutcome S′ T′ s i v′ (second P) ≡ (0, triple l o r)
+    second-fits e = stage-done (second-is S′ T′ s i P v′) (sym fits-x ∙ e) ek
+
+    pub second-fails : x ≡ false → lateOutcome S′ T′ s i v′ (second P) ≡ (10, v′)
+    second-fails e = stage-refused (second-is S′ T′ s i P v′) (sym fits-x ∙ e)
+
+    pub third-fails-local : x ≡ false → lateOutcome S′ T′ s i v′ (third P) ≡ (10, v′)
+    third-fails-local e = stage-refused (third-is S′ T′ s i P v′) (and-first _ (fits S′ T′ (sectorOf s i v′) tag P) (sym fits-x ∙ e))
+
+    module _ {y : Bool} (ey : y ≡ same (part 16 i g) (coded w P k tag)) where
+      fits-y : y ≡ fits S′ T′ (sectorOf s i v′) tag P
+      fits-y = coded-fits w p T′ P ek (sectorOf s i v′) tag ey
+
+      pub third-fits : x ≡ true → y ≡ true → {o : List ℕ} → o ≡ patch s i (coded w P k remote) r → lateOutcome S′ T′ s i v′ (third P) ≡ (0, triple l g o)
+      third-fits e f =
+          stage-done (third-is S′ T′ s i P v′) (and-both (fits S′ T′ (sectorOf s i v′) local P) (fits S′ T′ (sectorOf s i v′) tag P) (sym fits-x ∙ e) (sym fits-y ∙ f)) ek
+
+      pub third-fails-tag : y ≡ false → lateOutcome S′ T′ s i v′ (third P) ≡ (10, v′)
+      third-fails-tag f = stage-refused (third-is S′ T′ s i P v′) (and-second (fits S′ T′ (sectorOf s i v′) local P) _ (sym fits-y ∙ f))

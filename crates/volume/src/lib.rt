@@ -10,7 +10,6 @@ use verdict::Refusal;
 ghost use mathlib.Core.Path.{_≡_};
 ghost use lib.ListN.{length};
 ghost use Rattle.block.specs.Value.{value};
-ghost use Rattle.mode.specs.Scheme.{on};
 ghost use Rattle.mode.specs.Prepared.{Ready};
 ghost use Rattle.verdict.specs.Answers.{placeNamed, doneNumber, judgedNumber};
 ghost use Rattle.verdict.specs.Judging.{verdictOutcome, schemeOf};
@@ -19,7 +18,7 @@ ghost use Rattle.verdict.specs.Verdict.{judge};
 ghost use Rattle.history.specs.Volume.{args, mirror, outcome, readOutcome};
 ghost use Rattle.history.specs.Volume as W;
 ghost use Rattle.images.specs.Lent.{Within, placesOf};
-ghost use Rattle.volume.specs.Inner.{firstOutcome, secondOutcome, thirdOutcome, mendOutcome};
+ghost use Rattle.volume.specs.Inner.{allPlaces, one, sealInto, lateOutcome};
 
 // The first stage with a prepared key: p's local sector, if the sector is whole.
 fn first_in(
@@ -37,7 +36,7 @@ fn first_in(
     scratch: &mut [u8],
 ) -> Done
     requires { ⌜ Ready (now t) (now w) (now powers) m × Within (length (now p)) i (length (now local)) (length (now tags)) (length (now remote)) × (length (now plain) ≡ length (now p)) × (length (now sum) ≡ length (now p)) × (length (now scratch) ≡ length (now p)) ⌝ }
-    ensures { λ r. ⌜ firstOutcome (schemeOf (now (w .entry)) (now (powers .entry))) (value (m .tweak)) (length (now (p .entry))) i (now (p .entry)) (now (local .entry)) (now (tags .entry)) (now (remote .entry)) ≡ (doneNumber r, now (local .exit)) ⌝ }
+    ensures { λ r. ⌜ lateOutcome (schemeOf (now (w .entry)) (now (powers .entry))) (value (m .tweak)) (length (now (p .entry))) i (C.triple (now (local .entry)) (now (tags .entry)) (now (remote .entry))) (W.first (now (p .entry))) ≡ (doneNumber r, C.triple (now (local .exit)) (now (tags .entry)) (now (remote .entry))) ⌝ }
 {
     let s = p.len();
     let judged = images::judge_part(
@@ -79,7 +78,7 @@ fn second_in(
     scratch: &mut [u8],
 ) -> Done
     requires { ⌜ Ready (now t) (now w) (now powers) m × Within (length (now p)) i (length (now local)) (length (now tags)) (length (now remote)) × (length (now scratch) ≡ length (now p)) ⌝ }
-    ensures { λ r. ⌜ secondOutcome (schemeOf (now (w .entry)) (now (powers .entry))) (value (m .tweak)) (length (now (p .entry))) i (now (p .entry)) (now (local .entry)) (now (tags .entry)) (now (remote .entry)) ≡ (doneNumber r, now (tags .exit)) ⌝ }
+    ensures { λ r. ⌜ lateOutcome (schemeOf (now (w .entry)) (now (powers .entry))) (value (m .tweak)) (length (now (p .entry))) i (C.triple (now (local .entry)) (now (tags .entry)) (now (remote .entry))) (W.second (now (p .entry))) ≡ (doneNumber r, C.triple (now (local .entry)) (now (tags .exit)) (now (remote .entry))) ⌝ }
 {
     let g = mode::tag_block(t, w, powers, m, p);
     if images::fits_local(t, w, m.beta, g, p, i, local, scratch) {
@@ -103,11 +102,11 @@ fn third_in(
     scratch: &mut [u8],
 ) -> Done
     requires { ⌜ Ready (now t) (now w) (now powers) m × Within (length (now p)) i (length (now local)) (length (now tags)) (length (now remote)) × (length (now scratch) ≡ length (now p)) ⌝ }
-    ensures { λ r. ⌜ thirdOutcome (schemeOf (now (w .entry)) (now (powers .entry))) (value (m .tweak)) (length (now (p .entry))) i (now (p .entry)) (now (local .entry)) (now (tags .entry)) (now (remote .entry)) ≡ (doneNumber r, now (remote .exit)) ⌝ }
+    ensures { λ r. ⌜ lateOutcome (schemeOf (now (w .entry)) (now (powers .entry))) (value (m .tweak)) (length (now (p .entry))) i (C.triple (now (local .entry)) (now (tags .entry)) (now (remote .entry))) (W.third (now (p .entry))) ≡ (doneNumber r, C.triple (now (local .entry)) (now (tags .entry)) (now (remote .exit))) ⌝ }
 {
     let g = mode::tag_block(t, w, powers, m, p);
     if images::fits_local(t, w, m.beta, g, p, i, local, scratch) {
-        if block::equal(g, block::load(tags, i * 16)) {
+        if images::fits_tag(g, i, tags) {
             images::write_side(t, w, m.beta, Direction::SealRemote, g, p, i, remote);
             return Done::Done;
         }
@@ -128,7 +127,7 @@ fn write_all(
     remote: &mut [u8],
 )
     requires { ⌜ Ready (now t) (now w) (now powers) m × Within (length (now p)) i (length (now local)) (length (now tags)) (length (now remote)) ⌝ }
-    ensures { λ _. ⌜ C.triple (now (local .exit)) (now (tags .exit)) (now (remote .exit)) ≡ W.writeAll (length (now (p .entry))) i (on (schemeOf (now (w .entry)) (now (powers .entry)) .sealed (value (m .tweak)) (now (p .entry)))) (W.writes (length (now (p .entry))) (schemeOf (now (w .entry)) (now (powers .entry))) i (C.triple (now (local .entry)) (now (tags .entry)) (now (remote .entry))) W.blank .places) (C.triple (now (local .entry)) (now (tags .entry)) (now (remote .entry))) ⌝ }
+    ensures { λ _. ⌜ C.triple (now (local .exit)) (now (tags .exit)) (now (remote .exit)) ≡ sealInto (schemeOf (now (w .entry)) (now (powers .entry))) (value (m .tweak)) (length (now (p .entry))) i (now (p .entry)) allPlaces (C.triple (now (local .entry)) (now (tags .entry)) (now (remote .entry))) ⌝ }
 {
     let g = mode::tag_block(t, w, powers, m, p);
     images::write_side(t, w, m.beta, Direction::SealLocal, g, p, i, local);
@@ -150,7 +149,7 @@ fn write_place(
     remote: &mut [u8],
 )
     requires { ⌜ Ready (now t) (now w) (now powers) m × Within (length (now p)) i (length (now local)) (length (now tags)) (length (now remote)) ⌝ }
-    ensures { λ _. ⌜ C.triple (now (local .exit)) (now (tags .exit)) (now (remote .exit)) ≡ W.write (length (now (p .entry))) i (placeNamed place) (on (schemeOf (now (w .entry)) (now (powers .entry)) .sealed (value (m .tweak)) (now (p .entry))) (placeNamed place)) (C.triple (now (local .entry)) (now (tags .entry)) (now (remote .entry))) ⌝ }
+    ensures { λ _. ⌜ C.triple (now (local .exit)) (now (tags .exit)) (now (remote .exit)) ≡ sealInto (schemeOf (now (w .entry)) (now (powers .entry))) (value (m .tweak)) (length (now (p .entry))) i (now (p .entry)) (one (placeNamed place)) (C.triple (now (local .entry)) (now (tags .entry)) (now (remote .entry))) ⌝ }
 {
     let g = mode::tag_block(t, w, powers, m, p);
     match place {
@@ -176,7 +175,7 @@ fn mend_in(
     scratch: &mut [u8],
 ) -> Judged
     requires { ⌜ Ready (now t) (now w) (now powers) m × Within s i (length (now local)) (length (now tags)) (length (now remote)) × (length (now plain) ≡ s) × (length (now sum) ≡ s) × (length (now scratch) ≡ s) ⌝ }
-    ensures { λ r. ⌜ mendOutcome (schemeOf (now (w .entry)) (now (powers .entry))) (value (m .tweak)) s i (C.triple (now (local .entry)) (now (tags .entry)) (now (remote .entry))) (judge (schemeOf (now (w .entry)) (now (powers .entry))) (value (m .tweak)) (placesOf s i (now (local .entry)) (now (tags .entry)) (now (remote .entry)))) ≡ (judgedNumber r, C.triple (now (local .exit)) (now (tags .exit)) (now (remote .exit))) ⌝ }
+    ensures { λ r. ⌜ lateOutcome (schemeOf (now (w .entry)) (now (powers .entry))) (value (m .tweak)) s i (C.triple (now (local .entry)) (now (tags .entry)) (now (remote .entry))) W.mend ≡ (judgedNumber r, C.triple (now (local .exit)) (now (tags .exit)) (now (remote .exit))) ⌝ }
 {
     let judged = images::judge_part(
         t,
@@ -246,7 +245,7 @@ fn first_checked(
     remote: &[u8],
 ) -> Done
     requires { ⌜ (length (now key) ≡ 32) × Within (length (now p)) i (length (now local)) (length (now tags)) (length (now remote)) ⌝ }
-    ensures { λ r. ⌜ firstOutcome (mirror (C.key (now (key .entry)))) i (length (now (p .entry))) i (now (p .entry)) (now (local .entry)) (now (tags .entry)) (now (remote .entry)) ≡ (doneNumber r, now (local .exit)) ⌝ }
+    ensures { λ r. ⌜ lateOutcome (mirror (C.key (now (key .entry)))) i (length (now (p .entry))) i (C.triple (now (local .entry)) (now (tags .entry)) (now (remote .entry))) (W.first (now (p .entry))) ≡ (doneNumber r, C.triple (now (local .exit)) (now (tags .entry)) (now (remote .entry))) ⌝ }
 {
     let t = aes::table();
     let k = mode::prepare(&t, key);
@@ -282,7 +281,7 @@ fn second_checked(
     remote: &[u8],
 ) -> Done
     requires { ⌜ (length (now key) ≡ 32) × Within (length (now p)) i (length (now local)) (length (now tags)) (length (now remote)) ⌝ }
-    ensures { λ r. ⌜ secondOutcome (mirror (C.key (now (key .entry)))) i (length (now (p .entry))) i (now (p .entry)) (now (local .entry)) (now (tags .entry)) (now (remote .entry)) ≡ (doneNumber r, now (tags .exit)) ⌝ }
+    ensures { λ r. ⌜ lateOutcome (mirror (C.key (now (key .entry)))) i (length (now (p .entry))) i (C.triple (now (local .entry)) (now (tags .entry)) (now (remote .entry))) (W.second (now (p .entry))) ≡ (doneNumber r, C.triple (now (local .entry)) (now (tags .exit)) (now (remote .entry))) ⌝ }
 {
     let t = aes::table();
     let k = mode::prepare(&t, key);
@@ -314,7 +313,7 @@ fn third_checked(
     remote: &mut [u8],
 ) -> Done
     requires { ⌜ (length (now key) ≡ 32) × Within (length (now p)) i (length (now local)) (length (now tags)) (length (now remote)) ⌝ }
-    ensures { λ r. ⌜ thirdOutcome (mirror (C.key (now (key .entry)))) i (length (now (p .entry))) i (now (p .entry)) (now (local .entry)) (now (tags .entry)) (now (remote .entry)) ≡ (doneNumber r, now (remote .exit)) ⌝ }
+    ensures { λ r. ⌜ lateOutcome (mirror (C.key (now (key .entry)))) i (length (now (p .entry))) i (C.triple (now (local .entry)) (now (tags .entry)) (now (remote .entry))) (W.third (now (p .entry))) ≡ (doneNumber r, C.triple (now (local .entry)) (now (tags .entry)) (now (remote .exit))) ⌝ }
 {
     let t = aes::table();
     let k = mode::prepare(&t, key);
@@ -346,7 +345,7 @@ fn blank_checked(
     remote: &mut [u8],
 )
     requires { ⌜ (length (now key) ≡ 32) × Within (length (now p)) i (length (now local)) (length (now tags)) (length (now remote)) ⌝ }
-    ensures { λ _. ⌜ C.triple (now (local .exit)) (now (tags .exit)) (now (remote .exit)) ≡ W.writeAll (length (now (p .entry))) i (on (mirror (C.key (now (key .entry))) .sealed i (now (p .entry)))) (W.writes (length (now (p .entry))) (mirror (C.key (now (key .entry)))) i (C.triple (now (local .entry)) (now (tags .entry)) (now (remote .entry))) W.blank .places) (C.triple (now (local .entry)) (now (tags .entry)) (now (remote .entry))) ⌝ }
+    ensures { λ _. ⌜ C.triple (now (local .exit)) (now (tags .exit)) (now (remote .exit)) ≡ sealInto (mirror (C.key (now (key .entry)))) i (length (now (p .entry))) i (now (p .entry)) allPlaces (C.triple (now (local .entry)) (now (tags .entry)) (now (remote .entry))) ⌝ }
 {
     let t = aes::table();
     let k = mode::prepare(&t, key);
@@ -365,7 +364,7 @@ fn mend_checked(
     remote: &mut [u8],
 ) -> Judged
     requires { ⌜ (length (now key) ≡ 32) × Within s i (length (now local)) (length (now tags)) (length (now remote)) ⌝ }
-    ensures { λ r. ⌜ mendOutcome (mirror (C.key (now (key .entry)))) i s i (C.triple (now (local .entry)) (now (tags .entry)) (now (remote .entry))) (judge (mirror (C.key (now (key .entry)))) i (placesOf s i (now (local .entry)) (now (tags .entry)) (now (remote .entry)))) ≡ (judgedNumber r, C.triple (now (local .exit)) (now (tags .exit)) (now (remote .exit))) ⌝ }
+    ensures { λ r. ⌜ lateOutcome (mirror (C.key (now (key .entry)))) i s i (C.triple (now (local .entry)) (now (tags .entry)) (now (remote .entry))) W.mend ≡ (judgedNumber r, C.triple (now (local .exit)) (now (tags .exit)) (now (remote .exit))) ⌝ }
 {
     let t = aes::table();
     let k = mode::prepare(&t, key);

@@ -1,8 +1,4 @@
-use mathlib.Core.Path.{ap₂, _∙_}
-use lib.ListN.{length}
-use Rattle.block.specs.Bytes.{same}
-use Rattle.mode.specs.Sealing.{localBlock, sides}
-use Rattle.images.proofs.Parts.{lent-part}
+use Rattle.images.proofs.Parts.{lent-compared}
 use borrow.Author.Needs.{needs}
 use Rattle.images.proofs.fits_local.Statement.{statement}
 use Rattle.images.proofs.fits_local.Tie as tie
@@ -32,10 +28,7 @@ same-length : tie.Need-same-length
 same-length c = search needs
 
 returns : tie.Need-returns
-unfolding sides localBlock
-returns c =
-    let a = c .before .before .before .before .before .before .before .before .before .before .before .args in
-    c .same .ensures ∙ ap₂ same (lent-part (length (a .p .now)) (a .i) (a .local .now)) (c .before .before .before .before .before .transform .ensures)
+returns c = search lent-compared
 
 pub fits-local-spec : {M : Type 1} → statement M
 fits-local-spec =

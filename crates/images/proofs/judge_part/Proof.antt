@@ -1,8 +1,4 @@
-use mathlib.Core.Path.{sym, ap, _∙_}
-use Prim.Native.Nat.{ℕ, _%_}
-use native.Mathlib.Omega.{arith}
-use lib.ListN.{length-take, length-drop}
-use Rattle.images.proofs.Parts.{part-size, parts-judged}
+use Rattle.images.proofs.Parts.{lent-parts, lent-judged}
 use borrow.Author.Needs.{needs}
 use Rattle.images.proofs.judge_part.Statement.{statement}
 use Rattle.images.proofs.judge_part.Tie as tie
@@ -47,13 +43,7 @@ part-judge-in-end-3 : tie.Need-part-judge-in-end-3
 part-judge-in-end-3 c = search needs
 
 judge-in-requires : tie.Need-judge-in-requires
-judge-in-requires c κs =
-    let s = c .before .before .before .before .before .before .before .before .before .before .before .before .before in
-    let a = s .args in
-    let z = s .pre .1 in
-    let l = part-size (a .s) (a .i) (a .local .now) (z .local-end) in
-    let r = part-size (a .s) (a .i) (a .remote .now) (z .remote-end) in
-    (record { ready = s .pre .0; blocks = ap (λ (n : ℕ). n % 16) l ∙ z .blocks; most = omega arith; tag-size = simp (length-take, length-drop) (omega arith); remote-size = r ∙ sym l; out-size = s .pre .2 ∙ sym l }, s .pre .3 ∙ sym l, s .pre .4 ∙ sym l)
+judge-in-requires c κs = search (lent-parts, c .before .before .before .before .before .before .before .before .before .before .before .before .before .pre)
 
 same-length : tie.Need-same-length
 same-length c = search needs
@@ -65,9 +55,7 @@ same-length-3 : tie.Need-same-length-3
 same-length-3 c = search needs
 
 returns : tie.Need-returns
-returns c =
-    let a = c .before .before .before .before .before .before .before .before .before .before .before .before .before .before .before .before .before .before .before .before .args in
-    sym (parts-judged (a .w .now) (a .powers .now) (a .m) (a .s) (a .i) (a .local .now) (a .tags .now) (a .remote .now) (a .out .now)) ∙ c .before .before .before .before .before .before .judge-in .ensures
+returns c = search lent-judged
 
 pub judge-part-spec : {M : Type 1} → statement M
 judge-part-spec =

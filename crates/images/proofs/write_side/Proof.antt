@@ -1,9 +1,4 @@
-use mathlib.Core.Path.{ap, _∙_}
-use mathlib.Core.List.{List}
-use Prim.Native.Nat.{ℕ}
-use lib.ListN.{length}
-use Rattle.block.specs.Bytes.{patch}
-use Rattle.images.proofs.Parts.{lent-patch}
+use Rattle.images.proofs.Parts.{lent-written}
 use borrow.Author.Needs.{needs}
 use Rattle.images.proofs.write_side.Statement.{statement}
 use Rattle.images.proofs.write_side.Tie as tie
@@ -30,9 +25,7 @@ same-length : tie.Need-same-length
 same-length c = search needs
 
 returns : tie.Need-returns
-returns c =
-    let a = c .before .before .before .before .before .before .before .args in
-    lent-patch (length (a .p .now)) (a .i) (a .image .now) _ ∙ ap (λ (x : List ℕ). patch (length (a .p .now)) (a .i) x (a .image .now)) (c .before .before .transform .ensures)
+returns c = search lent-written
 
 pub write-side-spec : {M : Type 1} → statement M
 write-side-spec =

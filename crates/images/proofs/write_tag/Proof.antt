@@ -1,6 +1,4 @@
-use mathlib.Core.Path.{_∙_}
-use Rattle.block.specs.Value.{value}
-use Rattle.images.proofs.Parts.{stored-patch}
+use Rattle.images.proofs.Parts.{stored-written}
 use borrow.Author.Needs.{needs}
 use Rattle.images.proofs.write_tag.Statement.{statement}
 use Rattle.images.proofs.write_tag.Tie as tie
@@ -15,9 +13,7 @@ same-length : tie.Need-same-length
 same-length c = search needs
 
 returns : tie.Need-returns
-returns c =
-    let a = c .before .before .before .before .before .args in
-    c .before .before .store .ensures ∙ stored-patch (a .i) (value (a .g)) (a .tags .now)
+returns c = search stored-written
 
 pub write-tag-spec : {M : Type 1} → statement M
 write-tag-spec = tie.close (tie.spec mul-store store-requires same-length returns)

@@ -1,8 +1,4 @@
-use mathlib.Core.Path.{_∙_}
-use lib.ListN.{length}
-use Rattle.verdict.specs.Judging.{triple}
-use Rattle.verdict.proofs.Prepared.{ready-of}
-use Rattle.volume.proofs.Keyed.{blank-keyed}
+use Rattle.volume.proofs.Keyed.{seals-keyed, prepared-ready}
 use borrow.Author.Needs.{needs}
 use Rattle.volume.proofs.blank_checked.Statement.{statement}
 use Rattle.volume.proofs.blank_checked.Tie as tie
@@ -21,8 +17,8 @@ slice-aggregate-write-all c = search needs
 
 write-all-requires : tie.Need-write-all-requires
 write-all-requires c κs =
-    let a = c .before .before .before .before .before .before .before .before .before .before .before .before .before .before .before .before .before .args in
-    (ready-of (a .key .now) _ (c .before .before .before .before .before .before .before .before .before .prepare .ensures) _ (a .i) (c .before .before .before .before .before .before .context .ensures) (c .before .before .before .before .before .before .before .before .before .before .before .table .ensures), c .before .before .before .before .before .before .before .before .before .before .before .before .before .before .before .before .before .pre .1)
+    let p = c .before .before .before .before .before .before .before .before .before .before .before .before .before .before .before .before .before .pre in
+    (search prepared-ready, p .1)
 
 same-length : tie.Need-same-length
 same-length c = search needs
@@ -34,9 +30,7 @@ same-length-3 : tie.Need-same-length-3
 same-length-3 c = search needs
 
 returns : tie.Need-returns
-returns c =
-    let a = c .before .before .before .before .before .before .before .before .before .before .before .before .before .before .before .before .before .before .before .before .before .before .before .before .args in
-    c .before .before .before .before .before .before .write-all .ensures ∙ blank-keyed (a .key .now) _ (c .before .before .before .before .before .before .before .before .before .before .before .before .before .before .before .before .prepare .ensures) _ (a .i) (c .before .before .before .before .before .before .before .before .before .before .before .before .before .context .ensures) (length (a .p .now)) (a .p .now) (triple (a .local .now) (a .tags .now) (a .remote .now))
+returns c = search seals-keyed
 
 pub blank-checked-spec : {M : Type 1} → statement M
 blank-checked-spec =

@@ -1,8 +1,5 @@
-use mathlib.Core.Path.{sym, _∙_}
-use native.Mathlib.Omega.{arith}
-use lib.ListN.{length, length-take}
-use Rattle.verdict.proofs.Prepared.{ready-of}
-use Rattle.volume.proofs.Keyed.{first-keyed}
+use Rattle.volume.proofs.Keyed.{late-keyed, prepared-ready}
+use Rattle.volume.proofs.Public.{prefix-size}
 use borrow.Author.Needs.{needs}
 use Rattle.volume.proofs.first_checked.Statement.{statement}
 use Rattle.volume.proofs.first_checked.Tie as tie
@@ -20,36 +17,33 @@ slice-aggregate-first-in : tie.Need-slice-aggregate-first-in
 slice-aggregate-first-in c = search needs
 
 array-borrow-prefix-plain : tie.Need-array-borrow-prefix-plain
-array-borrow-prefix-plain c = let z = c .before .before .before .before .before .before .before .before .before .before .before .before .before .before .before .pre .1 in omega arith
+array-borrow-prefix-plain c = search (needs, prefix-size, c .before .before .before .before .before .before .before .before .before .before .before .before .before .before .before .pre)
 
 slice-aggregate-first-in-2 : tie.Need-slice-aggregate-first-in-2
-slice-aggregate-first-in-2 c = let z = c .before .before .before .before .before .before .before .before .before .before .before .before .before .before .before .before .pre .1 in simp length-take (omega arith)
+slice-aggregate-first-in-2 c = search (needs, prefix-size, c .before .before .before .before .before .before .before .before .before .before .before .before .before .before .before .before .pre)
 
 array-borrow-prefix-sum : tie.Need-array-borrow-prefix-sum
-array-borrow-prefix-sum c = let z = c .before .before .before .before .before .before .before .before .before .before .before .before .before .before .before .before .pre .1 in omega arith
+array-borrow-prefix-sum c = search (needs, prefix-size, c .before .before .before .before .before .before .before .before .before .before .before .before .before .before .before .before .pre)
 
 slice-aggregate-first-in-3 : tie.Need-slice-aggregate-first-in-3
-slice-aggregate-first-in-3 c = let z = c .before .before .before .before .before .before .before .before .before .before .before .before .before .before .before .before .before .pre .1 in simp length-take (omega arith)
+slice-aggregate-first-in-3 c = search (needs, prefix-size, c .before .before .before .before .before .before .before .before .before .before .before .before .before .before .before .before .before .pre)
 
 array-borrow-prefix-scratch : tie.Need-array-borrow-prefix-scratch
-array-borrow-prefix-scratch c = let z = c .before .before .before .before .before .before .before .before .before .before .before .before .before .before .before .before .before .pre .1 in omega arith
+array-borrow-prefix-scratch c = search (needs, prefix-size, c .before .before .before .before .before .before .before .before .before .before .before .before .before .before .before .before .before .pre)
 
 slice-aggregate-first-in-4 : tie.Need-slice-aggregate-first-in-4
-slice-aggregate-first-in-4 c = let z = c .before .before .before .before .before .before .before .before .before .before .before .before .before .before .before .before .before .before .pre .1 in simp length-take (omega arith)
+slice-aggregate-first-in-4 c = search (needs, prefix-size, c .before .before .before .before .before .before .before .before .before .before .before .before .before .before .before .before .before .before .pre)
 
 first-in-requires : tie.Need-first-in-requires
 first-in-requires c κs =
-    let a = c .before .before .before .before .before .before .before .before .before .before .before .before .before .before .before .before .before .before .args in
-    let z = c .before .before .before .before .before .before .before .before .before .before .before .before .before .before .before .before .before .before .pre .1 in
-    (ready-of (a .key .now) _ (c .before .before .before .before .before .before .before .before .before .before .prepare .ensures) _ (a .i) (c .before .before .before .before .before .before .before .context .ensures) (c .before .before .before .before .before .before .before .before .before .before .before .before .table .ensures), z, simp length-take (omega arith), simp length-take (omega arith), simp length-take (omega arith))
+    let p = c .before .before .before .before .before .before .before .before .before .before .before .before .before .before .before .before .before .before .pre in
+    (search prepared-ready, p .1, prefix-size _ _ (p .1 .most), prefix-size _ _ (p .1 .most), prefix-size _ _ (p .1 .most))
 
 same-length : tie.Need-same-length
 same-length c = search needs
 
 returns : tie.Need-returns
-returns c =
-    let a = c .before .before .before .before .before .before .before .before .before .before .before .before .before .before .before .before .before .before .before .before .before .before .before .before .args in
-    sym (first-keyed (a .key .now) _ (c .before .before .before .before .before .before .before .before .before .before .before .before .before .before .before .before .prepare .ensures) _ (a .i) (c .before .before .before .before .before .before .before .before .before .before .before .before .before .context .ensures) (length (a .p .now)) (a .p .now) (a .local .now) (a .tags .now) (a .remote .now)) ∙ c .before .before .before .before .before .first-in .ensures
+returns c = search late-keyed
 
 pub first-checked-spec : {M : Type 1} → statement M
 first-checked-spec =

@@ -1,10 +1,4 @@
-use Rattle.block.specs.Value.{value}
-use lib.ListN.{length}
-use Rattle.verdict.specs.Judging.{schemeOf}
-use Rattle.verdict.specs.Verdict.{judge}
-use Rattle.images.specs.Lent.{placesOf}
-use Rattle.images.proofs.Sealed.{local-written}
-use Rattle.volume.proofs.Stages.{judged-whole, judged-doubtful, judged-refused, first-yes, first-no}
+use Rattle.volume.proofs.Stages.{first-whole, first-doubtful, first-refused}
 use borrow.Author.Needs.{needs}
 use Rattle.volume.proofs.first_in.Statement.{statement}
 use Rattle.volume.proofs.first_in.Tie as tie
@@ -19,9 +13,7 @@ tag-block-requires : tie.Need-tag-block-requires
 tag-block-requires c κs = search needs
 
 write-side-requires : tie.Need-write-side-requires
-write-side-requires c κs =
-    let p = c .before .before .before .before .before .before .before .before .before .before .before .before .before .before .before .before .before .before .before .before .before .before .before .pre in
-    (p .0 .table, p .0 .rounds, p .0 .beta, p .1 .blocks, p .1 .most, p .1 .number, p .1 .local-end)
+write-side-requires c κs = search (needs, c .before .before .before .before .before .before .before .before .before .before .before .before .before .before .before .before .before .before .before .before .before .before .before .pre)
 
 enum-told-2 : tie.Need-enum-told-2
 enum-told-2 c = search needs
@@ -42,9 +34,7 @@ same-length-4 : tie.Need-same-length-4
 same-length-4 c = search needs
 
 returns : tie.Need-returns
-returns c =
-    let a = c .before .before .before .before .before .before .before .before .before .before .before .before .before .before .before .before .before .before .before .before .before .before .before .before .before .before .args in
-    first-yes (a .w .now) (a .powers .now) (value (a .m .tweak)) (length (a .p .now)) (a .i) (a .p .now) (a .local .now) (a .tags .now) (a .remote .now) (judged-whole (judge (schemeOf (a .w .now) (a .powers .now)) (value (a .m .tweak)) (placesOf (length (a .p .now)) (a .i) (a .local .now) (a .tags .now) (a .remote .now))) (a .plain .now) _ _ (c .before .before .before .before .before .before .before .before .before .before .before .before .before .judge-part .ensures) (c .before .before .before .before .before .enum-told .given .1)) (local-written (a .w .now) (a .powers .now) (value (a .m .tweak)) (length (a .p .now)) (a .i) (a .p .now) (a .local .now) (a .tags .now) (a .remote .now) _ (c .before .before .before .before .tag-block .ensures) (c .before .before .write-side .ensures))
+returns c = search first-whole
 
 same-length-5 : tie.Need-same-length-5
 same-length-5 c = search needs
@@ -59,9 +49,7 @@ same-length-8 : tie.Need-same-length-8
 same-length-8 c = search needs
 
 returns-2 : tie.Need-returns-2
-returns-2 c =
-    let a = c .before .before .before .before .before .before .before .before .before .before .before .before .before .before .before .before .before .before .before .before .before .args in
-    first-no (a .w .now) (a .powers .now) (value (a .m .tweak)) (length (a .p .now)) (a .i) (a .p .now) (a .local .now) (a .tags .now) (a .remote .now) (judged-doubtful (judge (schemeOf (a .w .now) (a .powers .now)) (value (a .m .tweak)) (placesOf (length (a .p .now)) (a .i) (a .local .now) (a .tags .now) (a .remote .now))) (a .plain .now) _ _ _ (c .before .before .before .before .before .before .before .before .judge-part .ensures) (c .enum-told2 .given .1))
+returns-2 c = search first-doubtful
 
 same-length-9 : tie.Need-same-length-9
 same-length-9 c = search needs
@@ -76,9 +64,7 @@ same-length-12 : tie.Need-same-length-12
 same-length-12 c = search needs
 
 returns-3 : tie.Need-returns-3
-returns-3 c =
-    let a = c .before .before .before .before .before .before .before .before .before .before .before .before .before .before .before .before .before .before .before .before .before .args in
-    first-no (a .w .now) (a .powers .now) (value (a .m .tweak)) (length (a .p .now)) (a .i) (a .p .now) (a .local .now) (a .tags .now) (a .remote .now) (judged-refused (judge (schemeOf (a .w .now) (a .powers .now)) (value (a .m .tweak)) (placesOf (length (a .p .now)) (a .i) (a .local .now) (a .tags .now) (a .remote .now))) (a .plain .now) _ _ _ (c .before .before .before .before .before .before .before .before .judge-part .ensures) (c .enum-told3 .given .1))
+returns-3 c = search first-refused
 
 pub first-in-spec : {M : Type 1} → statement M
 first-in-spec =

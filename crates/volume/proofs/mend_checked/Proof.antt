@@ -1,9 +1,5 @@
-use mathlib.Core.Path.{sym, _∙_}
-use native.Mathlib.Omega.{arith}
-use lib.ListN.{length-take}
-use Rattle.verdict.proofs.Prepared.{ready-of}
-use Rattle.volume.proofs.Keyed.{mend-keyed}
-use Rattle.verdict.specs.Judging.{triple}
+use Rattle.volume.proofs.Keyed.{late-keyed, prepared-ready}
+use Rattle.volume.proofs.Public.{prefix-size}
 use borrow.Author.Needs.{needs}
 use Rattle.volume.proofs.mend_checked.Statement.{statement}
 use Rattle.volume.proofs.mend_checked.Tie as tie
@@ -24,25 +20,24 @@ array-borrow-prefix-plain : tie.Need-array-borrow-prefix-plain
 array-borrow-prefix-plain c = search needs
 
 slice-aggregate-mend-in-2 : tie.Need-slice-aggregate-mend-in-2
-slice-aggregate-mend-in-2 c = let z = c .before .before .before .before .before .before .before .before .before .before .before .before .before .before .before .before .before .pre .1 in simp length-take (omega arith)
+slice-aggregate-mend-in-2 c = search (needs, prefix-size, c .before .before .before .before .before .before .before .before .before .before .before .before .before .before .before .before .before .pre)
 
 array-borrow-prefix-sum : tie.Need-array-borrow-prefix-sum
-array-borrow-prefix-sum c = let z = c .before .before .before .before .before .before .before .before .before .before .before .before .before .before .before .before .before .pre .1 in omega arith
+array-borrow-prefix-sum c = search (needs, prefix-size, c .before .before .before .before .before .before .before .before .before .before .before .before .before .before .before .before .before .pre)
 
 slice-aggregate-mend-in-3 : tie.Need-slice-aggregate-mend-in-3
-slice-aggregate-mend-in-3 c = let z = c .before .before .before .before .before .before .before .before .before .before .before .before .before .before .before .before .before .before .pre .1 in simp length-take (omega arith)
+slice-aggregate-mend-in-3 c = search (needs, prefix-size, c .before .before .before .before .before .before .before .before .before .before .before .before .before .before .before .before .before .before .pre)
 
 array-borrow-prefix-scratch : tie.Need-array-borrow-prefix-scratch
-array-borrow-prefix-scratch c = let z = c .before .before .before .before .before .before .before .before .before .before .before .before .before .before .before .before .before .before .pre .1 in omega arith
+array-borrow-prefix-scratch c = search (needs, prefix-size, c .before .before .before .before .before .before .before .before .before .before .before .before .before .before .before .before .before .before .pre)
 
 slice-aggregate-mend-in-4 : tie.Need-slice-aggregate-mend-in-4
-slice-aggregate-mend-in-4 c = let z = c .before .before .before .before .before .before .before .before .before .before .before .before .before .before .before .before .before .before .before .pre .1 in simp length-take (omega arith)
+slice-aggregate-mend-in-4 c = search (needs, prefix-size, c .before .before .before .before .before .before .before .before .before .before .before .before .before .before .before .before .before .before .before .pre)
 
 mend-in-requires : tie.Need-mend-in-requires
 mend-in-requires c κs =
-    let a = c .before .before .before .before .before .before .before .before .before .before .before .before .before .before .before .before .before .before .before .args in
-    let z = c .before .before .before .before .before .before .before .before .before .before .before .before .before .before .before .before .before .before .before .pre .1 in
-    (ready-of (a .key .now) _ (c .before .before .before .before .before .before .before .before .before .before .before .before .prepare .ensures) _ (a .i) (c .before .before .before .before .before .before .before .before .before .context .ensures) (c .before .before .before .before .before .before .before .before .before .before .before .before .before .before .table .ensures), z, simp length-take (omega arith), simp length-take (omega arith), simp length-take (omega arith))
+    let p = c .before .before .before .before .before .before .before .before .before .before .before .before .before .before .before .before .before .before .before .pre in
+    (search prepared-ready, p .1, prefix-size _ _ (p .1 .most), prefix-size _ _ (p .1 .most), prefix-size _ _ (p .1 .most))
 
 same-length : tie.Need-same-length
 same-length c = search needs
@@ -54,9 +49,7 @@ same-length-3 : tie.Need-same-length-3
 same-length-3 c = search needs
 
 returns : tie.Need-returns
-returns c =
-    let a = c .before .before .before .before .before .before .before .before .before .before .before .before .before .before .before .before .before .before .before .before .before .before .before .before .before .before .before .before .before .args in
-    sym (mend-keyed (a .key .now) _ (c .before .before .before .before .before .before .before .before .before .before .before .before .before .before .before .before .before .before .before .before .before .before .prepare .ensures) _ (a .i) (c .before .before .before .before .before .before .before .before .before .before .before .before .before .before .before .before .before .before .before .context .ensures) (a .s) (triple (a .local .now) (a .tags .now) (a .remote .now)) (a .local .now) (a .tags .now) (a .remote .now)) ∙ c .before .before .before .before .before .before .before .before .before .mend-in .ensures
+returns c = search late-keyed
 
 pub mend-checked-spec : {M : Type 1} → statement M
 mend-checked-spec =

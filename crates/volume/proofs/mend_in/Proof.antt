@@ -1,10 +1,5 @@
-use mathlib.Core.Path.{sym, subst, _∙_}
-use Prim.Native.Nat.{ℕ}
-use lib.ListN.{length}
-use Rattle.block.specs.Value.{value}
-use Rattle.verdict.specs.Judging.{triple, schemeOf}
-use Rattle.verdict.specs.Verdict.{judge}
-use Rattle.images.specs.Lent.{Within, placesOf}
+use mathlib.Core.Path.{_∙_}
+use Rattle.images.proofs.Rooms.{within-same}
 use Rattle.volume.proofs.Mends.{mend-whole, mend-doubtful, mend-refused}
 use borrow.Author.Needs.{needs}
 use Rattle.volume.proofs.mend_in.Statement.{statement}
@@ -22,10 +17,8 @@ enum-known-judged c = search needs
 write-place-requires : tie.Need-write-place-requires
 write-place-requires c κs =
     let p = c .before .before .before .before .before .before .before .before .before .before .before .before .before .before .before .before .before .before .before .before .before .before .before .before .before .before .before .pre in
-    let z = p .1 in
     let e = c .before .before .before .before .before .before .before .before .before .before .before .before .before .judge-part .kept .1 .1 .1 .1 .1 .1 .1 .1 .1 .0 ∙ p .2 in
-    let a = c .before .before .before .before .before .before .before .before .before .before .before .before .before .before .before .before .before .before .before .before .before .before .before .before .before .before .before .args in
-    (p .0, subst (λ (n : ℕ). Within n (a .i) (length (a .local .now)) (length (a .tags .now)) (length (a .remote .now))) (sym e) z)
+    (p .0, within-same e (p .1))
 
 enum-known-judged-2 : tie.Need-enum-known-judged-2
 enum-known-judged-2 c = search needs
@@ -49,9 +42,7 @@ same-length-6 : tie.Need-same-length-6
 same-length-6 c = search needs
 
 returns : tie.Need-returns
-returns c =
-    let a = c .before .before .before .before .before .before .before .before .before .before .before .before .before .before .before .before .before .before .before .before .before .before .args in
-    mend-whole (schemeOf (a .w .now) (a .powers .now)) (value (a .m .tweak)) (a .s) (a .i) (triple (a .local .now) (a .tags .now) (a .remote .now)) (a .plain .now) _ (judge (schemeOf (a .w .now) (a .powers .now)) (value (a .m .tweak)) (placesOf (a .s) (a .i) (a .local .now) (a .tags .now) (a .remote .now))) _ (c .before .before .before .before .before .before .before .before .judge-part .ensures) (c .enum-told .given .1)
+returns c = search mend-whole
 
 same-length-7 : tie.Need-same-length-7
 same-length-7 c = search needs
@@ -73,10 +64,9 @@ same-length-12 c = search needs
 
 returns-2 : tie.Need-returns-2
 returns-2 c =
-    let a = c .before .before .before .before .before .before .before .before .before .before .before .before .before .before .before .before .before .before .before .before .before .before .before .before .before .before .before .before .before .before .before .before .before .before .args in
-    let e = c .before .before .before .before .before .before .before .before .before .before .before .before .before .before .before .before .before .before .before .before .judge-part .kept .1 .1 .1 .1 .1 .1 .1 .1 .1 .0 ∙ c .before .before .before .before .before .before .before .before .before .before .before .before .before .before .before .before .before .before .before .before .before .before .before .before .before .before .before .before .before .before .before .before .before .before .pre .2 in
-    mend-doubtful (schemeOf (a .w .now) (a .powers .now)) (value (a .m .tweak)) (a .s) (a .i) (triple (a .local .now) (a .tags .now) (a .remote .now)) (a .plain .now) _ (judge (schemeOf (a .w .now) (a .powers .now)) (value (a .m .tweak)) (placesOf (a .s) (a .i) (a .local .now) (a .tags .now) (a .remote .now))) _ _ (c .before .before .before .before .before .before .before .before .before .before .before .before .before .before .before .before .before .before .before .before .judge-part .ensures) (c .before .before .before .before .before .before .before .before .before .before .before .before .judged .given .1)
-    _ e (c .before .before .before .before .before .before .write-place .ensures)
+    let judged = c .before .before .before .before .before .before .before .before .before .before .before .before .before .before .before .before .before .before .before .before .judge-part in
+    let e = judged .kept .1 .1 .1 .1 .1 .1 .1 .1 .1 .0 ∙ c .before .before .before .before .before .before .before .before .before .before .before .before .before .before .before .before .before .before .before .before .before .before .before .before .before .before .before .before .before .before .before .before .before .before .pre .2 in
+    search (mend-doubtful, judged .ensures, c .before .before .before .before .before .before .write-place .ensures)
 
 same-length-13 : tie.Need-same-length-13
 same-length-13 c = search needs
@@ -97,9 +87,7 @@ same-length-18 : tie.Need-same-length-18
 same-length-18 c = search needs
 
 returns-3 : tie.Need-returns-3
-returns-3 c =
-    let a = c .before .before .before .before .before .before .before .before .before .before .before .before .before .before .before .before .before .before .before .before .before .before .before .args in
-    mend-refused (schemeOf (a .w .now) (a .powers .now)) (value (a .m .tweak)) (a .s) (a .i) (triple (a .local .now) (a .tags .now) (a .remote .now)) (a .plain .now) _ (judge (schemeOf (a .w .now) (a .powers .now)) (value (a .m .tweak)) (placesOf (a .s) (a .i) (a .local .now) (a .tags .now) (a .remote .now))) _ _ (c .before .before .before .before .before .before .before .before .before .judge-part .ensures) (c .before .judged2 .given .1)
+returns-3 c = search mend-refused
 
 pub mend-in-spec : {M : Type 1} → statement M
 mend-in-spec =

@@ -1,9 +1,4 @@
-use mathlib.Core.Path.{refl, ap, _∙_}
-use lib.ListN.{length}
-use Rattle.verdict.specs.Answers.{doneOption}
-use Rattle.verdict.specs.Judging.{key, triple}
-use Rattle.history.specs.Volume.{args, read, isShape, early}
-use Rattle.volume.proofs.Public.{within, with-length, read-passes, read-refused}
+use Rattle.volume.proofs.Public.{read-within, read-done, read-refused}
 use borrow.Author.Needs.{needs}
 use Rattle.volume.proofs.read.Statement.{statement}
 use Rattle.volume.proofs.read.Tie as tie
@@ -15,13 +10,7 @@ enum-told : tie.Need-enum-told
 enum-told c = search needs
 
 read-checked-requires : tie.Need-read-checked-requires
-unfolding early isShape
-read-checked-requires c κs =
-    let a = c .before .before .before .before .before .before .before .before .before .args in
-    let ok = c .before .before .before .check-with .ensures ∙ ap doneOption (c .before .enum-told .given .1) in
-    let call = read (length (a .out .now)) in
-    let w = within (triple (a .local .now) (a .tags .now) (a .remote .now)) (args (key (a .key .now)) (a .s) (a .n) (a .i)) call ok in
-    (w .0, w .1, with-length (triple (a .local .now) (a .tags .now) (a .remote .now)) (args (key (a .key .now)) (a .s) (a .n) (a .i)) call (length (a .out .now)) refl ok)
+read-checked-requires c κs = let a = c .before .before .before .before .before .before .before .before .before .args in search (read-within (a .key .now) (a .s) (a .n) (a .i) (a .local .now) (a .tags .now) (a .remote .now) (a .out .now))
 
 enum-known-checked : tie.Need-enum-known-checked
 enum-known-checked c = search needs
@@ -30,17 +19,10 @@ same-length : tie.Need-same-length
 same-length c = search needs
 
 returns : tie.Need-returns
-unfolding early isShape
-returns c =
-    let a = c .before .before .before .before .before .before .before .before .before .before .before .before .args in
-    let ok = c .before .before .before .before .before .before .check-with .ensures ∙ ap doneOption (c .before .before .before .before .enum-told .given .1) in
-    read-passes (triple (a .local .now) (a .tags .now) (a .remote .now)) (args (key (a .key .now)) (a .s) (a .n) (a .i)) (a .out .now) ok (c .before .before .read-checked .ensures)
+returns c = search read-done
 
 returns-2 : tie.Need-returns-2
-unfolding early isShape
-returns-2 c =
-    let a = c .before .before .before .before .before .before .before .before .before .args in
-    read-refused (triple (a .local .now) (a .tags .now) (a .remote .now)) (args (key (a .key .now)) (a .s) (a .n) (a .i)) (a .out .now) (c .before .before .before .check-with .ensures ∙ ap doneOption (c .before .checked .given .1))
+returns-2 c = search read-refused
 
 pub read-spec : {M : Type 1} → statement M
 read-spec =

@@ -1,11 +1,5 @@
-use mathlib.Core.Path.{refl, sym, ap, _∙_}
-use Prim.Native.Nat.{ℕ}
 use lib.ListN.{length}
-use Rattle.verdict.specs.Answers.{doneOption}
-use Rattle.verdict.specs.Judging.{key, triple}
-use Rattle.history.specs.Volume.{args, second, isShape, early, mirror}
-use Rattle.volume.specs.Inner.{secondOutcome}
-use Rattle.volume.proofs.Public.{with-length, within-length, early-refused, second-passes}
+use Rattle.volume.proofs.Public.{call-refused, long-within, stage-done}
 use borrow.Author.Needs.{needs}
 use Rattle.volume.proofs.second_stage.Statement.{statement}
 use Rattle.volume.proofs.second_stage.Tie as tie
@@ -17,12 +11,7 @@ enum-told : tie.Need-enum-told
 enum-told c = search needs
 
 second-checked-requires : tie.Need-second-checked-requires
-unfolding early isShape
-second-checked-requires c κs =
-    let a = c .before .before .before .before .before .before .before .before .before .args in
-    let ok = c .before .before .before .check-with .ensures ∙ ap doneOption (c .before .enum-told .given .1) in
-    let l = with-length (triple (a .local .now) (a .tags .now) (a .remote .now)) (args (key (a .key .now)) (a .s) (a .n) (a .i)) (second (a .p .now)) (length (a .p .now)) refl ok in
-    within-length (triple (a .local .now) (a .tags .now) (a .remote .now)) (args (key (a .key .now)) (a .s) (a .n) (a .i)) (second (a .p .now)) (length (a .p .now)) l ok
+second-checked-requires c κs = let a = c .before .before .before .before .before .before .before .before .before .args in search (long-within (a .key .now) (a .s) (a .n) (a .i) (a .local .now) (a .tags .now) (a .remote .now) (length (a .p .now)))
 
 enum-known-checked : tie.Need-enum-known-checked
 enum-known-checked c = search needs
@@ -31,19 +20,10 @@ same-length : tie.Need-same-length
 same-length c = search needs
 
 returns : tie.Need-returns
-unfolding early isShape
-returns c =
-    let a = c .before .before .before .before .before .before .before .before .before .before .before .before .args in
-    let ok = c .before .before .before .before .before .before .check-with .ensures ∙ ap doneOption (c .before .before .before .before .enum-told .given .1) in
-    let l = with-length (triple (a .local .now) (a .tags .now) (a .remote .now)) (args (key (a .key .now)) (a .s) (a .n) (a .i)) (second (a .p .now)) (length (a .p .now)) refl ok in
-    second-passes (triple (a .local .now) (a .tags .now) (a .remote .now)) (args (key (a .key .now)) (a .s) (a .n) (a .i)) (a .p .now) ok
-    (ap (λ (n : ℕ). secondOutcome (mirror (key (a .key .now))) (a .i) n (a .i) (a .p .now) (a .local .now) (a .tags .now) (a .remote .now)) (sym l) ∙ c .before .before .second-checked .ensures)
+returns c = search stage-done
 
 returns-2 : tie.Need-returns-2
-unfolding early isShape
-returns-2 c =
-    let a = c .before .before .before .before .before .before .before .before .before .args in
-    early-refused (triple (a .local .now) (a .tags .now) (a .remote .now)) (args (key (a .key .now)) (a .s) (a .n) (a .i)) (second (a .p .now)) (c .before .before .before .check-with .ensures ∙ ap doneOption (c .before .checked .given .1))
+returns-2 c = search call-refused
 
 pub second-stage-spec : {M : Type 1} → statement M
 second-stage-spec =

@@ -1,8 +1,5 @@
-use mathlib.Core.Path.{sym, _∙_}
-use native.Mathlib.Omega.{arith}
-use lib.ListN.{length, length-take}
-use Rattle.verdict.proofs.Prepared.{ready-of}
-use Rattle.volume.proofs.Keyed.{third-keyed}
+use Rattle.volume.proofs.Keyed.{late-keyed, prepared-ready}
+use Rattle.volume.proofs.Public.{prefix-size}
 use borrow.Author.Needs.{needs}
 use Rattle.volume.proofs.third_checked.Statement.{statement}
 use Rattle.volume.proofs.third_checked.Tie as tie
@@ -20,24 +17,21 @@ slice-aggregate-third-in : tie.Need-slice-aggregate-third-in
 slice-aggregate-third-in c = search needs
 
 array-borrow-prefix-scratch : tie.Need-array-borrow-prefix-scratch
-array-borrow-prefix-scratch c = let z = c .before .before .before .before .before .before .before .before .before .before .before .before .before .before .before .pre .1 in omega arith
+array-borrow-prefix-scratch c = search (needs, prefix-size, c .before .before .before .before .before .before .before .before .before .before .before .before .before .before .before .pre)
 
 slice-aggregate-third-in-2 : tie.Need-slice-aggregate-third-in-2
-slice-aggregate-third-in-2 c = let z = c .before .before .before .before .before .before .before .before .before .before .before .before .before .before .before .before .pre .1 in simp length-take (omega arith)
+slice-aggregate-third-in-2 c = search (needs, prefix-size, c .before .before .before .before .before .before .before .before .before .before .before .before .before .before .before .before .pre)
 
 third-in-requires : tie.Need-third-in-requires
 third-in-requires c κs =
-    let a = c .before .before .before .before .before .before .before .before .before .before .before .before .before .before .before .before .args in
-    let z = c .before .before .before .before .before .before .before .before .before .before .before .before .before .before .before .before .pre .1 in
-    (ready-of (a .key .now) _ (c .before .before .before .before .before .before .before .before .prepare .ensures) _ (a .i) (c .before .before .before .before .before .context .ensures) (c .before .before .before .before .before .before .before .before .before .before .table .ensures), z, simp length-take (omega arith))
+    let p = c .before .before .before .before .before .before .before .before .before .before .before .before .before .before .before .before .pre in
+    (search prepared-ready, p .1, prefix-size _ _ (p .1 .most))
 
 same-length : tie.Need-same-length
 same-length c = search needs
 
 returns : tie.Need-returns
-returns c =
-    let a = c .before .before .before .before .before .before .before .before .before .before .before .before .before .before .before .before .before .before .before .before .args in
-    sym (third-keyed (a .key .now) _ (c .before .before .before .before .before .before .before .before .before .before .before .before .prepare .ensures) _ (a .i) (c .before .before .before .before .before .before .before .before .before .context .ensures) (length (a .p .now)) (a .p .now) (a .local .now) (a .tags .now) (a .remote .now)) ∙ c .before .before .before .third-in .ensures
+returns c = search late-keyed
 
 pub third-checked-spec : {M : Type 1} → statement M
 third-checked-spec =

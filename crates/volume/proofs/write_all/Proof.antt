@@ -1,7 +1,4 @@
-use Rattle.block.specs.Value.{value}
-use lib.ListN.{length}
-use Rattle.verdict.specs.Judging.{triple}
-use Rattle.images.proofs.Sealed.{local-written, tag-written, remote-written}
+use Rattle.volume.proofs.Writes.{all-written}
 use borrow.Author.Needs.{needs}
 use Rattle.volume.proofs.write_all.Statement.{statement}
 use Rattle.volume.proofs.write_all.Tie as tie
@@ -28,13 +25,7 @@ same-length-3 : tie.Need-same-length-3
 same-length-3 c = search needs
 
 returns : tie.Need-returns
-returns c =
-    let a = c .before .before .before .before .before .before .before .before .before .before .before .before .before .before .before .before .before .before .args in
-    let k = c .before .before .before .before .before .before .before .before .before .before .before .before .tag-block .ensures in
-    let l = local-written (a .w .now) (a .powers .now) (value (a .m .tweak)) (length (a .p .now)) (a .i) (a .p .now) (a .local .now) (a .tags .now) (a .remote .now) _ k (c .before .before .before .before .before .before .before .before .before .before .write-side .ensures) in
-    let g = tag-written (a .w .now) (a .powers .now) (value (a .m .tweak)) (length (a .p .now)) (a .i) (a .p .now) (a .local .now) (a .tags .now) (a .remote .now) _ k (c .before .before .before .before .before .before .write-tag .ensures) in
-    let r = remote-written (a .w .now) (a .powers .now) (value (a .m .tweak)) (length (a .p .now)) (a .i) (a .p .now) (a .local .now) (a .tags .now) (a .remote .now) _ k (c .before .before .write-side2 .ensures) in
-    λ j. triple (l j) (g j) (r j)
+returns c = search all-written
 
 pub write-all-spec : {M : Type 1} → statement M
 write-all-spec =

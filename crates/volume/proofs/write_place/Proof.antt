@@ -1,12 +1,4 @@
-use mathlib.Core.Path.{sym, ap, _∙_}
-use Rattle.block.specs.Value.{value}
-use lib.ListN.{length}
-use Rattle.mode.specs.Scheme.{on}
-use Rattle.verdict.specs.declared.Place as D
-use Rattle.verdict.specs.Judging.{triple, schemeOf}
-use Rattle.verdict.specs.Answers.{placeNamed}
-use Rattle.history.specs.Volume.{write}
-use Rattle.images.proofs.Sealed.{local-written, tag-written, remote-written}
+use Rattle.volume.proofs.Writes.{local-written, tag-written, remote-written}
 use borrow.Author.Needs.{needs}
 use Rattle.volume.proofs.write_place.Statement.{statement}
 use Rattle.volume.proofs.write_place.Tie as tie
@@ -36,31 +28,19 @@ same-length : tie.Need-same-length
 same-length c = search needs
 
 returns : tie.Need-returns
-returns c =
-    let a = c .before .before .before .before .before .before .before .before .before .before .before .before .args in
-    let v = triple (a .local .now) (a .tags .now) (a .remote .now) in
-    let e = local-written (a .w .now) (a .powers .now) (value (a .m .tweak)) (length (a .p .now)) (a .i) (a .p .now) (a .local .now) (a .tags .now) (a .remote .now) _ (c .before .before .before .before .before .before .tag-block .ensures) (c .before .before .write-side .ensures) in
-    (λ j. triple (e j) (a .tags .now) (a .remote .now)) ∙ sym (ap (λ (q : D.Place). write (length (a .p .now)) (a .i) (placeNamed q) (on (schemeOf (a .w .now) (a .powers .now) .sealed (value (a .m .tweak)) (a .p .now)) (placeNamed q)) v) (c .before .before .before .before .enum-told .given .1))
+returns c = search local-written
 
 same-length-2 : tie.Need-same-length-2
 same-length-2 c = search needs
 
 returns-2 : tie.Need-returns-2
-returns-2 c =
-    let a = c .before .before .before .before .before .before .before .before .before .before .before .before .args in
-    let v = triple (a .local .now) (a .tags .now) (a .remote .now) in
-    let e = tag-written (a .w .now) (a .powers .now) (value (a .m .tweak)) (length (a .p .now)) (a .i) (a .p .now) (a .local .now) (a .tags .now) (a .remote .now) _ (c .before .before .before .before .before .before .tag-block .ensures) (c .before .before .write-tag .ensures) in
-    (λ j. triple (a .local .now) (e j) (a .remote .now)) ∙ sym (ap (λ (q : D.Place). write (length (a .p .now)) (a .i) (placeNamed q) (on (schemeOf (a .w .now) (a .powers .now) .sealed (value (a .m .tweak)) (a .p .now)) (placeNamed q)) v) (c .before .before .before .before .enum-told2 .given .1))
+returns-2 c = search tag-written
 
 same-length-3 : tie.Need-same-length-3
 same-length-3 c = search needs
 
 returns-3 : tie.Need-returns-3
-returns-3 c =
-    let a = c .before .before .before .before .before .before .before .before .before .before .before .before .args in
-    let v = triple (a .local .now) (a .tags .now) (a .remote .now) in
-    let e = remote-written (a .w .now) (a .powers .now) (value (a .m .tweak)) (length (a .p .now)) (a .i) (a .p .now) (a .local .now) (a .tags .now) (a .remote .now) _ (c .before .before .before .before .before .before .tag-block .ensures) (c .before .before .write-side2 .ensures) in
-    (λ j. triple (a .local .now) (a .tags .now) (e j)) ∙ sym (ap (λ (q : D.Place). write (length (a .p .now)) (a .i) (placeNamed q) (on (schemeOf (a .w .now) (a .powers .now) .sealed (value (a .m .tweak)) (a .p .now)) (placeNamed q)) v) (c .before .before .before .before .enum-told3 .given .1))
+returns-3 c = search remote-written
 
 pub write-place-spec : {M : Type 1} → statement M
 write-place-spec =
