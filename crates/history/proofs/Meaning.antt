@@ -20,8 +20,8 @@ use Rattle.history.specs.Meaning.{Passes, Is, FitsAt, sealedIn, CallMean
 use Rattle.history.specs.Volume.{Args, Call, blank, first, second, third, mend, read, sector, mirror, outcome, readOutcome}
 use Rattle.history.proofs.Demand3.{mirror-sound}
 use Rattle.history.proofs.Images.{sector-images, passed-lawful}
-use Rattle.history.proofs.Outcomes.{mended, outcome-early, outcome-done, outcome-stage, outcome-mend, read-early, read-late}
-use Rattle.history.proofs.Refusals.{passed, shape-images, refusal-late}
+use Rattle.history.proofs.Outcomes.{mended, outcome-early, outcome-late, outcome-stage, outcome-mend, read-early, read-late}
+use Rattle.history.proofs.Refusals.{passed, shape-images}
 use Rattle.history.proofs.Sector.{is-whole}
 
 abbrev number : {A : Type 0} → ℕ × A → ℕ
@@ -190,7 +190,7 @@ module _ (v : Triple) (b : AnyBytes v) (a : Args) where
     second-writes = λ P e h. writes-0 (second P) (sealedIn v a tag P) (fits S (a .number) (sector v a) local P) (second-outcome P e) (fitting P local h);
     third-refuses = λ P e. refuses-10 (third P) (sealedIn v a remote P) (both P) (FitsAt v a local P × FitsAt v a tag P) (third-outcome P e) (both-fit P) (fit-both P);
     third-writes = λ P e h. writes-0 (third P) (sealedIn v a remote P) (both P) (third-outcome P e) (fit-both P h);
-    blank-writes = λ e. outcome-done mirror v a blank (refusal-late mirror v a blank e) refl;
+    blank-writes = λ e. outcome-late mirror v a blank e;
   }
 
 pub calls-mean : CallsMean

@@ -10,11 +10,11 @@ use Rattle.mode.specs.Scheme.{on, Scheme}
 use Rattle.verdict.specs.Answers.{rule, firstOf, foundNumber, settle}
 use Rattle.verdict.specs.Judging.{verdictRefusal, verdictDoubt, verdictPlain, verdictOutcome}
 use Rattle.verdict.specs.Verdict.{Verdict, whole, doubtful, lost, clashing, judge}
-use Rattle.history.specs.Answers.{Answer, done, gives, found, reply, answerNumber, output}
-use Rattle.history.specs.Volume.{writeAll, Args, Call, mend, read, judgeRules, early, late, mends, result, unless, sector, sealing, refusal, after, outcome, readOutcome}
+use Rattle.history.specs.Answers.{Answer, done, gives, reply, answerNumber, output}
+use Rattle.history.specs.Volume.{writeAll, Args, Call, mend, read, judgeRules, early, late, mends, result, unless, sector, sealing, refusal, answer, after, outcome, readOutcome}
 use Rattle.history.specs.Power.{finished}
-use Rattle.history.proofs.Refusals.{refusal-late, refusal-early, answer-accepted, answer-refused, answer-late, early-answer}
-use Rattle.history.proofs.Images.{accepted, after-accepted, after-refused}
+use Rattle.history.proofs.Refusals.{refusal-late, refusal-early, answer-refused, answer-late, early-answer}
+use Rattle.history.proofs.Images.{accepted, after-refused}
 
 -- the number and the images of a mend, by the verdict that it finds
 abbrev pub mended : Scheme → ℕ → ℕ → Triple → Verdict → ℕ × Triple
@@ -32,7 +32,7 @@ read-by clashing out = refl
 module _ (seals : Key → Scheme) (v : Triple) (a : Args) where
   -- ---- refused
 
-  pub outcome-refused : (c : Call) {n : ℕ} → refusal seals v a c ≡ some n → outcome seals v a c ≡ (n, v)
+  outcome-refused : (c : Call) {n : ℕ} → refusal seals v a c ≡ some n → outcome seals v a c ≡ (n, v)
   unfolding outcome
   outcome-refused c {n} e = ap₂ (λ (r : Answer) (w : Triple). (answerNumber r, w)) (answer-refused seals v a c n e) (after-refused seals v a c n e)
 
@@ -43,34 +43,42 @@ module _ (seals : Key → Scheme) (v : Triple) (a : Args) where
   unfolding readOutcome
   read-early out {n} e = ap (λ (r : Answer). (answerNumber r, output r out)) (early-answer seals v a (read (length out)) n e)
 
-  -- ---- done
+  -- ---- past the early refusals
 
-  pub outcome-done : (c : Call) → refusal seals v a c ≡ none → result (sealing seals a) (a .number) (sector v a) c ≡ done → outcome seals v a c ≡ (0, accepted seals v a c finished)
-  unfolding outcome
-  outcome-done c e d = ap₂ (λ (r : Answer) (u : Triple). (answerNumber r, u)) (answer-accepted seals v a c e ∙ d) (after-accepted seals v a c e)
+  settled : (o : Option ℕ) (r : Answer) (w : Triple) → (answerNumber (reply o r), unless o v w) ≡ settle o (answerNumber r, w) v
+  settled none r w = refl
+  settled (some n) r w = refl
+
+  pub outcome-late : (c : Call) → firstOf (early v a c) ≡ none
+      → outcome seals v a c ≡ settle (firstOf (late (sealing seals a) (a .number) (sector v a) c)) (answerNumber (result (sealing seals a) (a .number) (sector v a) c), accepted seals v a c finished) v
+  unfolding outcome answer after
+  outcome-late c e =
+      ap (λ (o : Option ℕ). (answerNumber (reply o (result (sealing seals a) (a .number) (sector v a) c)), unless o v (accepted seals v a c finished))) (refusal-late seals v a c e)
+      ∙ settled (firstOf (late (sealing seals a) (a .number) (sector v a) c)) (result (sealing seals a) (a .number) (sector v a) c) (accepted seals v a c finished)
 
   -- a stage: 10 unless x holds
   pub outcome-stage : (c : Call) (x : Bool) → firstOf (early v a c) ≡ none
       → firstOf (late (sealing seals a) (a .number) (sector v a) c) ≡ firstOf (rule 10 (not x) ∷ []) → result (sealing seals a) (a .number) (sector v a) c ≡ done
       → outcome seals v a c ≡ cond x (0, accepted seals v a c finished) (10, v)
-  outcome-stage c true e l d = outcome-done c (refusal-late seals v a c e ∙ l) d
-  outcome-stage c false e l d = outcome-refused c (refusal-late seals v a c e ∙ l)
+  outcome-stage c x e l d =
+      outcome-late c e
+      ∙ ap₂ (λ (o : Option ℕ) (r : Answer). settle o (answerNumber r, accepted seals v a c finished) v) l d
+      ∙ stage-by x
+    where
+      stage-by : (x : Bool) → settle (firstOf (rule 10 (not x) ∷ [])) (0, accepted seals v a c finished) v ≡ cond x (0, accepted seals v a c finished) (10, v)
+      stage-by true = refl
+      stage-by false = refl
 
   -- ---- by the verdict
 
-  mend-by : (w : Verdict) → (answerNumber (reply (firstOf (judgeRules w)) (found (verdictDoubt w))), unless (firstOf (judgeRules w)) v (writeAll (a .size) (a .number) (on (sealing seals a .sealed (a .number) (mends w .plain))) (mends w .places) v)) ≡ mended (sealing seals a) (a .size) (a .number) v w
+  mend-by : (w : Verdict) → settle (firstOf (judgeRules w)) (foundNumber (verdictDoubt w), writeAll (a .size) (a .number) (on (sealing seals a .sealed (a .number) (mends w .plain))) (mends w .places) v) v ≡ mended (sealing seals a) (a .size) (a .number) v w
   mend-by (whole P) = refl
   mend-by (doubtful p P) = refl
   mend-by lost = refl
   mend-by clashing = refl
 
   pub outcome-mend : firstOf (early v a mend) ≡ none → outcome seals v a mend ≡ mended (sealing seals a) (a .size) (a .number) v (judge (sealing seals a) (a .number) (sector v a))
-  unfolding outcome after
-  outcome-mend e =
-      let w : Verdict = judge (sealing seals a) (a .number) (sector v a) in
-      ap₂ (λ (r : Answer) (o : Option ℕ). (answerNumber r, unless o v (writeAll (a .size) (a .number) (on (sealing seals a .sealed (a .number) (mends w .plain))) (mends w .places) v)))
-      (answer-late seals v a mend e) (refusal-late seals v a mend e)
-      ∙ mend-by w
+  outcome-mend e = outcome-late mend e ∙ mend-by (judge (sealing seals a) (a .number) (sector v a))
 
   pub read-late : (out : List ℕ) → firstOf (early v a (read (length out))) ≡ none → readOutcome seals v a out ≡ verdictOutcome (judge (sealing seals a) (a .number) (sector v a)) out
   unfolding readOutcome

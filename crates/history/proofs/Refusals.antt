@@ -155,10 +155,6 @@ module _ (seals : Key → Scheme) (v : Triple) (a : Args) (c : Call) where
   pub accepted-images : AnyBytes v → refusal seals v a c ≡ none → Images (a .size) (a .count) v
   accepted-images b e = shape-images (a .size) (a .count) v (accepted-passed e .common .shape) b
 
-  pub answer-accepted : refusal seals v a c ≡ none → answer seals v a c ≡ result (sealing seals a) (a .number) (sector v a) c
-  unfolding answer
-  answer-accepted e = ap (λ (r : Option ℕ). reply r (result (sealing seals a) (a .number) (sector v a) c)) e
-
   pub answer-refused : (k : ℕ) → refusal seals v a c ≡ some k → answer seals v a c ≡ refused k
   unfolding answer
   answer-refused k e = ap (λ (r : Option ℕ). reply r (result (sealing seals a) (a .number) (sector v a) c)) e

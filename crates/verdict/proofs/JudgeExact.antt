@@ -45,7 +45,7 @@ same-place remote remote = inl refl
 pub local-tag : local ≡ tag → ⊥
 local-tag = diff local tag (λ x. x)
 
-local-remote : local ≡ remote → ⊥
+pub local-remote : local ≡ remote → ⊥
 local-remote = diff local remote (λ x. x)
 
 pub tag-remote : tag ≡ remote → ⊥
