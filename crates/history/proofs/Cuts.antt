@@ -12,7 +12,10 @@ use Rattle.block.proofs.Lists.{false-true}
 use Rattle.block.proofs.Parts.{parts-all}
 use Rattle.mode.specs.Sealing.{Triple}
 use Rattle.mode.specs.Scheme.{Place, local, tag, remote, on, wide, Sector}
-use Rattle.verdict.proofs.JudgeExact.{same-place}
+use Rattle.verdict.specs.Verdict.{fits}
+use Rattle.verdict.proofs.JudgeExact.{same-place, fits-Fits, Fits-fits}
+use Rattle.history.specs.Machine.{Told, toldFinished, toldCut}
+use Rattle.history.proofs.Options.{none-some}
 use Rattle.history.specs.Volume.{store, sectorOf, Args, Call, writes, sector, sealing, refusal, mirror}
 use Rattle.history.specs.Power.{Cut, cut, CutOf, torn, Images, Lent, leavesCall}
 use Rattle.history.specs.HistoryFrom.{AnyBytes}
@@ -192,5 +195,28 @@ module _ (v : Triple) (b : AnyBytes v) (a : Args) (c : Call) (lent : Lent c) (e 
   exactly : (w : Triple) → ((k : Cut) × CutOf (a .size) (cut k) × (leavesCall mirror v a c (cut k) ≡ w)) ↔ CutLeaves v a c w
   exactly w = (λ (k, z, h). subst (CutLeaves v a c) h (keeps-rule k z), λ r. (the-cut w r, is-cut w r, is-left w r))
 
+-- ---- in a list
+
+told-fits : (x : Bool) → toldCut x ≡ toldCut true → x ≡ true
+told-fits x e = ap isNew e
+  where
+    isNew : Told → Bool
+    isNew toldFinished = false
+    isNew (toldCut b) = b
+
 pub cut-exact : CutExact
-cut-exact = record { refused = leaves-refused mirror; accepted = λ v b a c lent e w. exactly v b a c lent e w }
+cut-exact = record {
+  refused = leaves-refused mirror;
+  accepted = λ vol v b a t c lent e w.
+      let x = exactly v b a c lent e w in (
+        λ (k, m, h). x .0 (k, subst (λ (s : ℕ). CutOf s (cut k)) (sym (t .size)) (m .2), h),
+        λ r. let (k, z, h) = x .1 r in (k, (λ n. t, lent, subst (λ (s : ℕ). CutOf s (cut k)) (t .size) z), h),
+      );
+  tag-told = λ S i t P k. (
+    λ h. fits-Fits S i t tag P (told-fits (fits S i t tag P) h),
+    λ h. ap toldCut (Fits-fits S i t tag P h),
+  );
+  finished-allowed = λ vol v a c t l. (λ e. t, l, tt);
+  refused-allowed = λ vol v a c k l e. (λ n. absurd (none-some (sym n ∙ e)), l, tt);
+  damage-allowed = λ vol v p i b lt h. (lt, h);
+}

@@ -1,6 +1,6 @@
 -- Demand 3 for the mode. Assumes nothing.
-use Rattle.mode.specs.Scheme.{Lawful, Sound, scheme}
-use Rattle.mode.specs.Sealing.{tweak}
+use Rattle.mode.specs.Scheme.{Lawful, Sound, dcm, scheme}
+use Rattle.mode.specs.Sealing.{tweak, sealed}
 use Rattle.mode.proofs.Laws.{sound}
 use Rattle.history.specs.History.{Demand3}
 use Rattle.history.specs.HistoryFrom.{General}
@@ -10,7 +10,7 @@ use Rattle.history.proofs.History.{history-from, start-agrees, history-
 
 -- an address is one tweak among others
 pub mirror-sound : Sound mirror
-unfolding mirror
+unfolding mirror sealed scheme dcm
 mirror-sound = record {
   lawful = λ k s ek es.
       let L : Lawful s (scheme k) = sound .lawful k s ek es in

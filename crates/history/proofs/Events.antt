@@ -9,8 +9,8 @@ use borrow.Author.Tests.{eq-eqb, ne-eqb}
 use Rattle.mode.specs.Sealing.{Triple, Key}
 use Rattle.mode.specs.Scheme.{Place, Scheme, Sound}
 use Rattle.history.specs.Volume.{sectorOf, write, Args, args, Call, sector, sealing, refusal}
-use Rattle.history.specs.Machine.{called, Held, step, hurt, State, put, machine}
-use Rattle.history.specs.Power.{Fate, Event, call, damage, turned, told, Volume, Takes, Images, Lent, CutOf, leavesCall, leaves, seen, Allowed, AllAllowed, run, hold}
+use Rattle.history.specs.Machine.{called, Held, step, afterDamage, State, put, machine}
+use Rattle.history.specs.Power.{Fate, Event, call, damage, isRefused, told, Volume, Takes, Images, Lent, CutOf, leavesCall, leaves, seen, Allowed, AllAllowed, run, hold}
 use Rattle.history.specs.History.{at, own}
 use Rattle.history.specs.HistoryFrom.{Agree, AnyBytes, Agrees}
 use Rattle.history.proofs.Refusals.{accepted-passed}
@@ -40,10 +40,10 @@ takes-args vol a k = λ j. record { key = k .key j; size = k .size j; count = k 
 
 module _ (seals : Key → Scheme) (vol : Volume) (v : Triple) (h : State) (a : Args) (c : Call) (f : Fate) where
   pub machine-accepted : refusal seals v a c ≡ none → machine h (seen seals vol v (call a c f)) ≡ put (a .number) (step (a .size) c (told (sealing seals a) (a .number) (sector (leavesCall seals v a c f) a) c f) (h (a .number))) h
-  machine-accepted e = ap (λ (r : Option ℕ). machine h (called a c (turned r) (told (sealing seals a) (a .number) (sector (leavesCall seals v a c f) a) c f))) e
+  machine-accepted e = ap (λ (r : Option ℕ). machine h (called a c (isRefused r) (told (sealing seals a) (a .number) (sector (leavesCall seals v a c f) a) c f))) e
 
   pub machine-refused : (k : ℕ) → refusal seals v a c ≡ some k → machine h (seen seals vol v (call a c f)) ≡ h
-  machine-refused k e = ap (λ (r : Option ℕ). machine h (called a c (turned r) (told (sealing seals a) (a .number) (sector (leavesCall seals v a c f) a) c f))) e
+  machine-refused k e = ap (λ (r : Option ℕ). machine h (called a c (isRefused r) (told (sealing seals a) (a .number) (sector (leavesCall seals v a c f) a) c f))) e
 
 module _ (seals : Key → Scheme) (sound : Sound seals) (vol : Volume) where
   -- one sector changes, and what is held of it
@@ -80,11 +80,11 @@ module _ (seals : Key → Scheme) (sound : Sound seals) (vol : Volume) where
       subst (λ (w : Triple). Agrees seals vol w (machine h (seen seals vol v (call a c f)))) (sym (leaves-refused seals v a c f k e))
       (subst (λ (y : State). Agrees seals vol v y) (sym (machine-refused seals vol v h a c f k e)) g)
 
-  damage-step : (v : Triple) (h : State) → Agrees seals vol v h → (p : Place) (i : ℕ) (b : List ℕ) → Allowed seals vol v (damage p i b) → Agrees seals vol (write (vol .size) i p b v) (put i (hurt p (h i)) h)
+  damage-step : (v : Triple) (h : State) → Agrees seals vol v h → (p : Place) (i : ℕ) (b : List ℕ) → Allowed seals vol v (damage p i b) → Agrees seals vol (write (vol .size) i p b v) (put i (afterDamage p (h i)) h)
   damage-step v h g p i b m =
-      agrees-put v (write (vol .size) i p b v) h i (hurt p (h i)) g
+      agrees-put v (write (vol .size) i p b v) h i (afterDamage p (h i)) g
       (images-write (vol .size) (vol .count) i (m .0) p b (m .1) v (g .images))
-      (subst (λ (u : Triple). Agree (vol .size) (own seals vol) i u (hurt p (h i))) (sym (sector-write (vol .size) (vol .count) i (m .0) p b (m .1) v (g .images)))
+      (subst (λ (u : Triple). Agree (vol .size) (own seals vol) i u (afterDamage p (h i))) (sym (sector-write (vol .size) (vol .count) i (m .0) p b (m .1) v (g .images)))
       (keeps-hurt (vol .size) (own seals vol) i (at vol v i) p b (h i) (g .agree i (m .0))))
       (λ j n. sector-other (vol .size) (vol .count) i (m .0) p b (m .1) v (g .images) j n)
 

@@ -8,7 +8,7 @@ use native.Mathlib.Decide.{ℕ-discrete}
 use Rattle.mode.specs.Sealing.{Triple, Key}
 use Rattle.mode.specs.Scheme.{Place, Scheme, Sound}
 use Rattle.history.specs.Volume.{Args, Call, refusal}
-use Rattle.history.specs.Machine.{Held, gone, hurt, State, put, machine, start}
+use Rattle.history.specs.Machine.{Held, gone, afterDamage, State, put, machine, start}
 use Rattle.history.specs.Power.{Fate, Event, call, damage, Volume, Images, leavesCall, leaves, seen, Allowed, AllAllowed, run, hold}
 use Rattle.history.specs.History.{at, own, Promise, Promised}
 use Rattle.history.specs.HistoryFrom.{Agree, AnyBytes, Agrees, HistoryFrom, HistoryAny}
@@ -43,12 +43,12 @@ module _ (seals : Key → Scheme) (sound : Sound seals) (vol : Volume) where
   gone-agrees : (v : Triple) (h : State) → Images (vol .size) (vol .count) v → AllGone h → Agrees seals vol v h
   gone-agrees v h I z = record { images = I; agree = λ i lt. subst (λ (x : Held). Agree (vol .size) (own seals vol) i (at vol v i) x) (sym (z i)) tt }
 
-  gone-hurt : (h : State) (p : Place) (i : ℕ) → AllGone h → AllGone (put i (hurt p (h i)) h)
+  gone-hurt : (h : State) (p : Place) (i : ℕ) → AllGone h → AllGone (put i (afterDamage p (h i)) h)
   gone-hurt h p i z j = go (ℕ-discrete j i)
     where
-      go : Dec (j ≡ i) → put i (hurt p (h i)) h j ≡ gone
-      go (yes e) = ap (put i (hurt p (h i)) h) e ∙ put-same i (hurt p (h i)) h ∙ ap (hurt p) (z i)
-      go (no n) = put-other i (hurt p (h i)) h j n ∙ z j
+      go : Dec (j ≡ i) → put i (afterDamage p (h i)) h j ≡ gone
+      go (yes e) = ap (put i (afterDamage p (h i)) h) e ∙ put-same i (afterDamage p (h i)) h ∙ ap (afterDamage p) (z i)
+      go (no n) = put-other i (afterDamage p (h i)) h j n ∙ z j
 
   either-call : (v : Triple) (h : State) → AnyBytes v → AllGone h → (a : Args) (c : Call) (f : Fate) → Allowed seals vol v (call a c f) → (r : Option ℕ) → refusal seals v a c ≡ r
       → Either (leavesCall seals v a c f) (machine h (seen seals vol v (call a c f)))

@@ -9,7 +9,7 @@ use Rattle.block.specs.Bytes.{Bytes, Plain, part, patch}
 use Rattle.mode.specs.Sealing.{Triple, Key}
 use Rattle.mode.specs.Scheme.{Place, local, tag, remote, on, wide, Scheme, Sector, Lawful, Sound}
 use Rattle.verdict.specs.Verdict.{Fits}
-use Rattle.history.specs.Volume.{sectorOf, store, write, writeAll, Args, Call, first, writes, unless, sector, sealing, refusal, after}
+use Rattle.history.specs.Volume.{sectorOf, store, write, writeAll, Args, Call, first, writes, unless, sector, sealing, refusal, landed, after}
 use Rattle.history.specs.Machine.{Held, step}
 use Rattle.history.specs.Power.{Fate, finished, cut, told, Images, Lent, CutOf, leavesCall}
 use Rattle.history.specs.HistoryFrom.{Agree, AnyBytes}
@@ -82,10 +82,7 @@ module _ (s n i : ℕ) (lt : i < n) where
 module _ (seals : Key → Scheme) (v : Triple) (a : Args) (c : Call) where
   -- the images that it leaves if it is not refused
   abbrev pub accepted : Fate → Triple
-  accepted f =
-      writeAll (a .size) (a .number)
-      (lands f (sealing seals a .sealed (a .number) (writes (a .size) (sealing seals a) (a .number) (sector v a) c .plain)) (sector v a))
-      (writes (a .size) (sealing seals a) (a .number) (sector v a) c .places) v
+  accepted f = landed seals (lands f) v a c
 
   pub after-accepted : refusal seals v a c ≡ none → after seals v a c ≡ accepted finished
   unfolding after

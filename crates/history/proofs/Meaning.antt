@@ -20,7 +20,7 @@ use Rattle.history.specs.Meaning.{Passes, Is, FitsAt, sealedIn, CallMean
 use Rattle.history.specs.Volume.{Args, Call, blank, first, second, third, mend, read, sector, mirror, outcome, readOutcome}
 use Rattle.history.proofs.Demand3.{mirror-sound}
 use Rattle.history.proofs.Images.{sector-images, passed-lawful}
-use Rattle.history.proofs.Outcomes.{mended, outcome-early, outcome-late, outcome-stage, outcome-mend, read-early, read-late}
+use Rattle.history.proofs.Outcomes.{mended, outcome-early, outcome-read, outcome-late, outcome-stage, outcome-mend, read-early, read-late}
 use Rattle.history.proofs.Refusals.{passed, shape-images}
 use Rattle.history.proofs.Sector.{is-whole}
 
@@ -47,6 +47,9 @@ module _ (v : Triple) (b : AnyBytes v) (a : Args) where
       let p = passed v a c e in
       judge-exact (a .size) S (passed-lawful mirror mirror-sound v a (p .common)) (a .number) (sector v a)
       (sector-images (a .size) (a .count) (a .number) (p .number) v (shape-images (a .size) (a .count) v (p .common .shape) b)) w
+
+  one-verdict : (c : Call) → Passes v a c → (w : Verdict) × Is v a w × ((u : Verdict) → Is v a u → u ≡ w)
+  one-verdict c e = (verdict, exact c e verdict .0 refl, λ u m. sym (exact c e u .1 m))
 
   -- ---- read
 
@@ -175,6 +178,8 @@ module _ (v : Triple) (b : AnyBytes v) (a : Args) where
   call-means = record {
     refuses = λ c k e. outcome-early mirror v a c e;
     read-refuses = λ out k e. read-early mirror v a out e;
+    one-verdict = one-verdict;
+    read-leaves = λ out. outcome-read mirror v a out;
     read-lost = read-lost;
     read-clashing = read-clashing;
     read-whole = read-whole;

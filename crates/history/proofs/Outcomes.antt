@@ -43,6 +43,15 @@ module _ (seals : Key → Scheme) (v : Triple) (a : Args) where
   unfolding readOutcome
   read-early out {n} e = ap (λ (r : Answer). (answerNumber r, output r out)) (early-answer seals v a (read (length out)) n e)
 
+  -- a read changes no image, refused or not
+  pub outcome-read : (out : List ℕ) → outcome seals v a (read (length out)) ≡ (readOutcome seals v a out .0, v)
+  unfolding outcome readOutcome after
+  outcome-read out = ap (λ (w : Triple). (answerNumber (answer seals v a (read (length out))), w)) (go (refusal seals v a (read (length out))))
+    where
+      go : (o : Option ℕ) → unless o v v ≡ v
+      go none = refl
+      go (some k) = refl
+
   -- ---- past the early refusals
 
   settled : (o : Option ℕ) (r : Answer) (w : Triple) → (answerNumber (reply o r), unless o v w) ≡ settle o (answerNumber r, w) v

@@ -14,7 +14,7 @@ use Rattle.verdict.specs.Verdict.{Fits, FitsTwo, Verdict, whole, doubtful, lost
 use Rattle.verdict.specs.Answers.{rule, firstOf}
 use Rattle.history.specs.Answers.{isWhole}
 use Rattle.history.specs.Volume.{store, Call, blank, first, second, third, mend, read, judgeRules, late, mends, writes}
-use Rattle.history.specs.Machine.{broken, Held, gone, kept, step, hurt, isPlace}
+use Rattle.history.specs.Machine.{toldCut, Held, gone, kept, step, afterDamage, isPlace}
 use Rattle.history.specs.Power.{Cut, Fate, finished, cut, CutOf, torn, told}
 use Rattle.history.specs.HistoryFrom.{Agree}
 use Rattle.block.proofs.Lists.{clash, false-true, and-left, and-right, and-both, plain-zeros}
@@ -181,7 +181,7 @@ module _ (s : ℕ) (S : Scheme) (L : Lawful s S) (i : ℕ) (t : Triple) (σ : Se
   abbrev retagged : List ℕ → Bool → Triple
   retagged P b = store tag (cond b (S .sealed i P .tag) (t .tag)) t
 
-  second-cut : (P : List ℕ) (x : Held) → Plain s P → Fits S i t local P → Agree s S i t x → (new u : Bool) → fits S i (retagged P new) tag P ≡ u → Agree s S i (retagged P new) (step s (second P) (broken u) x)
+  second-cut : (P : List ℕ) (x : Held) → Plain s P → Fits S i t local P → Agree s S i t x → (new u : Bool) → fits S i (retagged P new) tag P ≡ u → Agree s S i (retagged P new) (step s (second P) (toldCut u) x)
   second-cut P x h l g new true e = tagged (cond new (S .sealed i P .tag) (t .tag)) P h l (fits-Fits S i (retagged P new) tag P e)
   second-cut P x h l g true false e = clash (Fits-fits S i (retagged P true) tag P refl) e
   second-cut P x h l g false false e = g
@@ -285,7 +285,7 @@ is-place remote local e = false-true e
 is-place remote tag e = false-true e
 is-place remote remote e = refl
 
-pub keeps-hurt : (s : ℕ) (S : Scheme) (i : ℕ) (t : Triple) (p : Place) (b : List ℕ) (x : Held) → Agree s S i t x → Agree s S i (store p b t) (hurt p x)
+pub keeps-hurt : (s : ℕ) (S : Scheme) (i : ℕ) (t : Triple) (p : Place) (b : List ℕ) (x : Held) → Agree s S i t x → Agree s S i (store p b t) (afterDamage p x)
 keeps-hurt s S i t p b gone g = tt
 keeps-hurt s S i t p b (kept P none) g = (g .0, λ q n. on-store-other p q b t (λ z. n (ap some (sym z))) ∙ g .1 q none-some)
 keeps-hurt s S i t p b (kept P (some q)) g = go (isPlace q p) (is-place q p)

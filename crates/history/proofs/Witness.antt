@@ -14,10 +14,10 @@ use Rattle.mode.specs.Scheme.{Place, local, tag, remote, wide, Lawful}
 use Rattle.verdict.specs.Verdict.{Fits, judge, whole}
 use Rattle.verdict.specs.Answers.{firstOf}
 use Rattle.verdict.proofs.JudgeExact.{local-remote, tag-remote}
-use Rattle.history.specs.Volume.{write, Args, Call, blank, first, second, third, read, isShape, shape, lengths, early, refusal, mirror}
-use Rattle.history.specs.Machine.{ended, Held, kept, hurt, State, start, step, machine}
+use Rattle.history.specs.Volume.{write, Args, Call, blank, first, second, third, mend, read, isShape, shape, lengths, early, refusal, mirror}
+use Rattle.history.specs.Machine.{toldFinished, Held, kept, afterDamage, State, start, step, machine}
 use Rattle.history.specs.Power.{finished, Event, call, damage, Volume, Images, Lent, leavesCall, seen, Allowed, AllAllowed}
-use Rattle.history.specs.History.{at, own, ProperRead}
+use Rattle.history.specs.History.{at, own, Proper, ProperRead}
 use Rattle.history.specs.HistoryFrom.{Agree, Agrees}
 use Rattle.history.specs.Witness.{Accepted, Reaches, Reached}
 use Rattle.history.proofs.Demand3.{mirror-sound}
@@ -68,8 +68,8 @@ module _ (vol : Volume) (accepted : Accepted vol) (i : ℕ) (lt : i < vol .count
     agrees-after : Agrees mirror vol images-after state-after
     agrees-after = event-step mirror mirror-sound vol v h g (call a c finished) (allowed v c l)
 
-    held-after : refusal mirror v a c ≡ none → state-after i ≡ step (vol .size) c ended (h i)
-    held-after e = ap (λ (y : State). y i) (machine-accepted mirror vol v h a c finished e) ∙ put-same i (step (vol .size) c ended (h i)) h
+    held-after : refusal mirror v a c ≡ none → state-after i ≡ step (vol .size) c toldFinished (h i)
+    held-after e = ap (λ (y : State). y i) (machine-accepted mirror vol v h a c finished e) ∙ put-same i (step (vol .size) c toldFinished (h i)) h
 
   -- the sector's verdict where the machine keeps it without doubt
   lawful : Lawful (vol .size) (own mirror vol)
@@ -173,13 +173,14 @@ module _ (vol : Volume) (accepted : Accepted vol) (i : ℕ) (lt : i < vol .count
     written-allowed es m =
         (allowed v blank tt, (allowed v₁ (first P) (plain .bytes), (allowed v₂ (second P) (plain .bytes), (allowed v₃ (third P) (plain .bytes), m))))
 
+    proper : (w : Triple) → Images (vol .size) (vol .count) w → (c : Call) → Lent c → firstOf (lengths a c) ≡ none → Proper vol w i a c
+    proper w J c l e = record { takes = record { key = refl; size = refl; count = refl }; names = refl; lent = l; passes = passes w J c e }
+
     reads : (w : Triple) → Images (vol .size) (vol .count) w → ProperRead vol w i a (replicate (vol .size) 0)
-    reads w J = record {
-      takes = record { key = refl; size = refl; count = refl };
-      names = refl;
-      lent = tt;
-      passes = passes w J (read (length (replicate (vol .size) 0))) (same-length (length (replicate (vol .size) 0)) (length-replicate (vol .size) 0));
-    }
+    reads w J = proper w J (read (length (replicate (vol .size) 0))) tt (same-length (length (replicate (vol .size) 0)) (length-replicate (vol .size) 0))
+
+    stages : (w : Triple) → Images (vol .size) (vol .count) w → (Q : List ℕ) → Plain (vol .size) Q → Proper vol w i a (first Q)
+    stages w J Q h = proper w J (first Q) (h .bytes) (same-length (length Q) (h .long))
 
     reaches : (d : Option Place) → Reaches vol v i (kept P d)
     unfolding written v₁ v₂ v₃ v₄ h₁ h₂ h₃ h₄
@@ -189,18 +190,23 @@ module _ (vol : Volume) (accepted : Accepted vol) (i : ℕ) (lt : i < vol .count
       holds = holds₄;
       args = a;
       out = replicate (vol .size) 0;
-      proper = reads v₄ (g₄ .images);
+      read-proper = reads v₄ (g₄ .images);
+      mend-proper = proper v₄ (g₄ .images) mend tt refl;
+      first-proper = stages v₄ (g₄ .images);
     }
     reaches (some q) =
         let b : List ℕ = replicate (wide (vol .size) q) 0 in
         let hurts : Allowed mirror vol v₄ (damage q i b) = (lt, plain-zeros (wide (vol .size) q)) in
+        let J : Images (vol .size) (vol .count) (write (vol .size) i q b v₄) = event-step mirror mirror-sound vol v₄ h₄ g₄ (damage q i b) hurts .images in
         record {
           events = written (damage q i b ∷ []);
           allowed = written-allowed (damage q i b ∷ []) (hurts, tt);
-          holds = put-same i (hurt q (h₄ i)) h₄ ∙ ap (hurt q) holds₄;
+          holds = put-same i (afterDamage q (h₄ i)) h₄ ∙ ap (afterDamage q) holds₄;
           args = a;
           out = replicate (vol .size) 0;
-          proper = reads (write (vol .size) i q b v₄) (event-step mirror mirror-sound vol v₄ h₄ g₄ (damage q i b) hurts .images);
+          read-proper = reads (write (vol .size) i q b v₄) J;
+          mend-proper = proper (write (vol .size) i q b v₄) J mend tt refl;
+          first-proper = stages (write (vol .size) i q b v₄) J;
         }
 
 pub reached : Reached

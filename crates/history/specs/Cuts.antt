@@ -1,16 +1,18 @@
--- Document 01's rule for a power cut, as it reads there, and that the cuts of the theorem are exactly these: proved as `cut-exact`.
+-- Document 01's rule for a power cut, as it reads there, and that the cuts of the theorem's lists are exactly these: proved as `cut-exact`.
 use mathlib.Core.Path.{_≡_}
 use mathlib.Core.Logic.{_↔_, _⊎_}
 use mathlib.Core.Bool.{Bool, true, false}
-use mathlib.Core.List.{List·Memᴰ}
+use mathlib.Core.List.{List, List·Memᴰ}
 use mathlib.Core.Option.{none, some}
-use Prim.Native.Nat.{ℕ}
+use Prim.Native.Nat.{ℕ, _<_}
 use lib.ListN.{length}
 use Rattle.block.specs.Bytes.{Plain}
 use Rattle.mode.specs.Sealing.{Triple}
-use Rattle.mode.specs.Scheme.{Place, local, tag, remote, on}
-use Rattle.history.specs.Volume.{Args, Call, sectorOf, writes, sector, sealing, refusal, mirror}
-use Rattle.history.specs.Power.{Fate, Cut, cut, CutOf, Lent, leavesCall}
+use Rattle.mode.specs.Scheme.{Place, local, tag, remote, on, wide, Scheme}
+use Rattle.verdict.specs.Verdict.{Fits}
+use Rattle.history.specs.Volume.{Args, Call, second, sectorOf, writes, sector, sealing, refusal, mirror}
+use Rattle.history.specs.Power.{Cut, Fate, finished, cut, call, damage, Volume, Takes, Lent, told, leavesCall, leaves, Allowed}
+use Rattle.history.specs.Machine.{toldCut}
 use Rattle.history.specs.HistoryFrom.{AnyBytes}
 
 -- What a cut in a call that is not refused leaves of the images v: the images w. A set of the call's writes had begun, in any order.
@@ -28,11 +30,19 @@ pub record CutLeaves (v : Triple) (a : Args) (c : Call) (w : Triple) : Type 0 wh
   pub not-begun : (p : Place) → begun p ≡ false → on (sector w a) p ≡ on (sector v a) p
   -- and so is every other sector
   pub others : (j : ℕ) → (j ≡ a .number → ⊥) → sectorOf (a .size) j w ≡ sectorOf (a .size) j v
+  -- no image grows or shrinks
   pub lengths : (p : Place) → length (on w p) ≡ length (on v p)
 
 pub record CutExact : Type 0 where
   -- a call that is or would be refused writes nothing
   pub refused : (v : Triple) (a : Args) (c : Call) (f : Fate) (k : ℕ) → refusal mirror v a c ≡ some k → leavesCall mirror v a c f ≡ v
-  -- the outcomes of a cut are those of the rule, all of them and no others
-  pub accepted : (v : Triple) → AnyBytes v → (a : Args) (c : Call) → Lent c → refusal mirror v a c ≡ none → (w : Triple)
-      → ((k : Cut) × CutOf (a .size) (cut k) × (leavesCall mirror v a c (cut k) ≡ w)) ↔ CutLeaves v a c w
+  -- the outcomes of a cut that is allowed in a list are those of the rule, all of them and no others
+  pub accepted : (vol : Volume) (v : Triple) → AnyBytes v → (a : Args) → Takes vol a → (c : Call) → Lent c → refusal mirror v a c ≡ none → (w : Triple)
+      → ((k : Cut) × Allowed mirror vol v (call a c (cut k)) × (leaves mirror vol v (call a c (cut k)) ≡ w)) ↔ CutLeaves v a c w
+  -- of a cut second stage the machine is told that the tag is new exactly if the tag that is left is P's
+  pub tag-told : (S : Scheme) (i : ℕ) (t : Triple) (P : List ℕ) (k : Cut) → (told S i t (second P) (cut k) ≡ toldCut true) ↔ Fits S i t tag P
+  -- what else is allowed: every finished call with the volume's key, s and n, every call that is or would be refused, with any arguments, and
+  -- damage of any bytes to any place of any sector
+  pub finished-allowed : (vol : Volume) (v : Triple) (a : Args) (c : Call) → Takes vol a → Lent c → Allowed mirror vol v (call a c finished)
+  pub refused-allowed : (vol : Volume) (v : Triple) (a : Args) (c : Call) (k : ℕ) → Lent c → refusal mirror v a c ≡ some k → Allowed mirror vol v (call a c finished)
+  pub damage-allowed : (vol : Volume) (v : Triple) (p : Place) (i : ℕ) (b : List ℕ) → i < vol .count → Plain (wide (vol .size) p) b → Allowed mirror vol v (damage p i b)

@@ -13,9 +13,9 @@ use Rattle.history.specs.Volume.{Args, Call, blank, first, second, third
 
 -- how a call ended
 pub data Told : Type 0 where
-  ended : Told
+  toldFinished : Told
   -- cut; for a second stage, whether the tag is new, for any other call false
-  broken : Bool → Told
+  toldCut : Bool → Told
 
 -- an event's kind and its arguments but the images; of a call, whether a listed refusal turns it away, and how it ended
 pub data Seen : Type 0 where
@@ -39,19 +39,19 @@ cleared (kept Q d) = kept Q none
 
 -- a call that is not refused, on a sector of s bytes
 abbrev pub step : ℕ → Call → Told → Held → Held
-step s blank ended x = kept (replicate s 0) none
-step s blank (broken b) x = gone
-step s (first P) ended x = doubtLocal x
-step s (first P) (broken b) x = doubtLocal x
-step s (second P) ended x = kept P (some remote)
-step s (second P) (broken true) x = kept P (some remote)
-step s (second P) (broken false) x = x
-step s (third P) ended x = kept P none
-step s (third P) (broken b) x = kept P (some remote)
-step s mend ended x = cleared x
-step s mend (broken b) x = x
-step s (read o) ended x = x
-step s (read o) (broken b) x = x
+step s blank toldFinished x = kept (replicate s 0) none
+step s blank (toldCut b) x = gone
+step s (first P) toldFinished x = doubtLocal x
+step s (first P) (toldCut b) x = doubtLocal x
+step s (second P) toldFinished x = kept P (some remote)
+step s (second P) (toldCut true) x = kept P (some remote)
+step s (second P) (toldCut false) x = x
+step s (third P) toldFinished x = kept P none
+step s (third P) (toldCut b) x = kept P (some remote)
+step s mend toldFinished x = cleared x
+step s mend (toldCut b) x = x
+step s (read o) toldFinished x = x
+step s (read o) (toldCut b) x = x
 
 abbrev pub isPlace : Place → Place → Bool
 isPlace local local = true
@@ -65,10 +65,10 @@ isPlace remote tag = false
 isPlace remote remote = true
 
 -- after damage to p: doubt there, unless there was doubt elsewhere
-abbrev pub hurt : Place → Held → Held
-hurt p gone = gone
-hurt p (kept Q none) = kept Q (some p)
-hurt p (kept Q (some q)) = cond (isPlace q p) (kept Q (some q)) gone
+abbrev pub afterDamage : Place → Held → Held
+afterDamage p gone = gone
+afterDamage p (kept Q none) = kept Q (some p)
+afterDamage p (kept Q (some q)) = cond (isPlace q p) (kept Q (some q)) gone
 
 -- what is held of each sector
 abbrev pub State : Type 0
@@ -81,7 +81,7 @@ put i x h j = cond (eqb j i) x (h j)
 abbrev pub machine : State → Seen → State
 machine h (called a c true m) = h
 machine h (called a c false m) = put (a .number) (step (a .size) c m (h (a .number))) h
-machine h (damaged p i) = put i (hurt p (h i)) h
+machine h (damaged p i) = put i (afterDamage p (h i)) h
 
 -- all sectors start gone
 abbrev pub start : State

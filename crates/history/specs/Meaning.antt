@@ -39,7 +39,11 @@ module _ (v : Triple) (a : Args) where
     -- the refusals before 6 and 10: the number, and every lent byte as it was
     pub refuses : (c : Call) (k : ℕ) → firstOf (early v a c) ≡ some k → outcome mirror v a c ≡ (k, v)
     pub read-refuses : (out : List ℕ) (k : ℕ) → firstOf (early v a (read (length out))) ≡ some k → readOutcome mirror v a out ≡ (k, out)
-    -- a read refuses 6 exactly if the sector is lost, 7 exactly if it is clashing, and else gives the verdict and its plaintext
+    -- the sector has exactly one verdict
+    pub one-verdict : (c : Call) → Passes c → (w : Verdict) × Is w × ((u : Verdict) → Is u → u ≡ w)
+    -- a read leaves the images; it refuses 6 exactly if the sector is lost, 7 exactly if it is clashing, and else gives the verdict and its
+    -- plaintext
+    pub read-leaves : (out : List ℕ) → outcome mirror v a (read (length out)) ≡ (readOutcome mirror v a out .0, v)
     pub read-lost : (out : List ℕ) → Passes (read (length out)) → (readOutcome mirror v a out ≡ (6, out)) ↔ Is lost
     pub read-clashing : (out : List ℕ) → Passes (read (length out)) → (readOutcome mirror v a out ≡ (7, out)) ↔ Is clashing
     pub read-whole : (out : List ℕ) → Passes (read (length out)) → (P : List ℕ) → (readOutcome mirror v a out ≡ (0, P)) ↔ Is (whole P)

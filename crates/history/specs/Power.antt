@@ -9,8 +9,8 @@ use Rattle.block.specs.Bytes.{Bytes, Plain}
 use Rattle.mode.specs.Sealing.{Triple, Key}
 use Rattle.mode.specs.Scheme.{Place, local, tag, remote, on, wide, Scheme}
 use Rattle.verdict.specs.Verdict.{fits}
-use Rattle.history.specs.Volume.{Args, Call, blank, first, second, third, mend, read, write, writes, writeAll, unless, sector, sealing, refusal, after}
-use Rattle.history.specs.Machine.{Told, ended, broken, Seen, called, damaged, State, machine}
+use Rattle.history.specs.Volume.{Args, Call, blank, first, second, third, mend, read, write, unless, sector, sealing, refusal, landed, after}
+use Rattle.history.specs.Machine.{Told, toldFinished, toldCut, Seen, called, damaged, State, machine}
 
 -- ---- a volume
 
@@ -70,9 +70,9 @@ torn k written found remote = k .inRemote
 
 -- ---- what the machine is fed
 
-abbrev pub turned : Option ℕ → Bool
-turned none = false
-turned (some k) = true
+abbrev pub isRefused : Option ℕ → Bool
+isRefused none = false
+isRefused (some k) = true
 
 -- whether the tag is new after a cut second stage that left t in sector i; an old tag that equals the new one counts as new
 abbrev pub tagTold : Scheme → ℕ → Triple → Call → Bool
@@ -84,8 +84,8 @@ tagTold S i t mend = false
 tagTold S i t (read o) = false
 
 abbrev pub told : Scheme → ℕ → Triple → Call → Fate → Told
-told S i t c finished = ended
-told S i t c (cut k) = broken (tagTold S i t c)
+told S i t c finished = toldFinished
+told S i t c (cut k) = toldCut (tagTold S i t c)
 
 -- ---- lists of events
 
@@ -94,10 +94,7 @@ module _ (seals : Key → Scheme) where
   -- were.
   unfoldable pub leavesCall : Triple → Args → Call → Fate → Triple
   leavesCall v a c finished = after seals v a c
-  leavesCall v a c (cut k) =
-      let w = writes (a .size) (sealing seals a) (a .number) (sector v a) c in
-      unless (refusal seals v a c) v
-      (writeAll (a .size) (a .number) (torn k (sealing seals a .sealed (a .number) (w .plain)) (sector v a)) (w .places) v)
+  leavesCall v a c (cut k) = unless (refusal seals v a c) v (landed seals (torn k) v a c)
 
   module _ (vol : Volume) where
     -- the images after an event
@@ -107,7 +104,7 @@ module _ (seals : Key → Scheme) where
 
     abbrev pub seen : Triple → Event → Seen
     seen v (call a c f) =
-        called a c (turned (refusal seals v a c)) (told (sealing seals a) (a .number) (sector (leavesCall v a c f) a) c f)
+        called a c (isRefused (refusal seals v a c)) (told (sealing seals a) (a .number) (sector (leavesCall v a c f) a) c f)
     seen v (damage p i b) = damaged p i
 
     -- every call takes the volume's key, s and n but one that is or would be refused

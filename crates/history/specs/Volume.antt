@@ -7,7 +7,7 @@ use Prim.Native.Nat.{ℕ, _*_}
 use lib.Dec.{eqb, leb}
 use lib.ListN.{length, replicate}
 use Rattle.block.specs.Bytes.{part, patch}
-use Rattle.mode.specs.Sealing.{Triple, Key, tweak}
+use Rattle.mode.specs.Sealing.{Triple, Key, sealed}
 use Rattle.mode.specs.Scheme.{Place, local, tag, remote, on, wide, isSize, Scheme, scheme}
 use Rattle.verdict.specs.Verdict.{Verdict, fits, judge}
 use Rattle.verdict.specs.Judging.{verdictRefusal, verdictDoubt, verdictPlain}
@@ -165,11 +165,16 @@ module _ (seals : Key → Scheme) where
   unfoldable pub answer : Triple → Args → Call → Answer
   answer v a c = reply (refusal v a c) (result (sealing a) (a .number) (sector v a) c)
 
+  -- the images once a call that is not refused has written; `land` says what lands in a place, of the bytes that the call writes and those
+  -- that it found
+  abbrev pub landed : (Triple → Triple → Place → List ℕ) → Triple → Args → Call → Triple
+  landed land v a c =
+      let w = writes (a .size) (sealing a) (a .number) (sector v a) c in
+      writeAll (a .size) (a .number) (land (sealing a .sealed (a .number) (w .plain)) (sector v a)) (w .places) v
+
   -- the images that a call leaves, finished or refused
   unfoldable pub after : Triple → Args → Call → Triple
-  after v a c =
-      let w = writes (a .size) (sealing a) (a .number) (sector v a) c in
-      unless (refusal v a c) v (writeAll (a .size) (a .number) (on (sealing a .sealed (a .number) (w .plain))) (w .places) v)
+  after v a c = unless (refusal v a c) v (landed (λ written found. on written) v a c)
 
   -- ---- what a caller gets: the number of the answer, and the images or the output afterwards
 
@@ -179,6 +184,6 @@ module _ (seals : Key → Scheme) where
   unfoldable pub readOutcome : Triple → Args → List ℕ → ℕ × List ℕ
   readOutcome v a out = let r = answer v a (read (length out)) in (answerNumber r, output r out)
 
--- the mode with an address for the tweak
+-- the mode, with a sector's number for its address
 unfoldable pub mirror : Key → Scheme
-mirror k = record { sealed = λ address. scheme k .sealed (tweak address); openLocal = scheme k .openLocal; openRemote = scheme k .openRemote }
+mirror k = record { sealed = sealed k; openLocal = scheme k .openLocal; openRemote = scheme k .openRemote }

@@ -1,5 +1,5 @@
--- Demand 3 speaks of something: on every volume that the calls accept, events lead from any images to each state of a sector that the
--- machine can keep, and a proper read is there. Proved as `reached`.
+-- Demand 3 is not empty: on every volume that the calls accept, events lead from any images to each state of a sector that the machine can
+-- keep, and proper calls are there. Proved as `reached`.
 use mathlib.Core.Path.{_≡_}
 use mathlib.Core.Bool.{true}
 use mathlib.Core.List.{List}
@@ -8,10 +8,10 @@ use Prim.Native.Nat.{ℕ, _≤_, _<_}
 use Rattle.block.specs.Bytes.{Plain}
 use Rattle.mode.specs.Sealing.{Triple}
 use Rattle.mode.specs.Scheme.{Place, isKey, isSize}
-use Rattle.history.specs.Volume.{Args, mirror}
+use Rattle.history.specs.Volume.{Args, first, mend, mirror}
 use Rattle.history.specs.Machine.{Held, kept, start}
 use Rattle.history.specs.Power.{Event, Volume, Images, AllAllowed, run, hold}
-use Rattle.history.specs.History.{ProperRead}
+use Rattle.history.specs.History.{Proper, ProperRead}
 
 -- a key, a size and a count that the calls accept
 pub record Accepted (vol : Volume) : Type 0 where
@@ -20,14 +20,17 @@ pub record Accepted (vol : Volume) : Type 0 where
   pub least : 1 ≤ vol .count
   pub most : vol .count ≤ 65536
 
--- from the images v and all sectors gone: events, all allowed, after which the machine holds x of sector i, and a proper read of it
+-- from the images v and all sectors gone: events, all allowed, after which the machine holds x of sector i, and a proper read, a proper mend
+-- and, with every plaintext of s bytes, a proper first stage of it
 pub record Reaches (vol : Volume) (v : Triple) (i : ℕ) (x : Held) : Type 0 where
   pub events : List Event
   pub allowed : AllAllowed mirror vol v events
   pub holds : hold mirror vol v start events i ≡ x
   pub args : Args
   pub out : List ℕ
-  pub proper : ProperRead vol (run mirror vol v events) i args out
+  pub read-proper : ProperRead vol (run mirror vol v events) i args out
+  pub mend-proper : Proper vol (run mirror vol v events) i args mend
+  pub first-proper : (Q : List ℕ) → Plain (vol .size) Q → Proper vol (run mirror vol v events) i args (first Q)
 
 -- every plaintext of s bytes, without doubt and with each place in doubt
 abbrev pub Reached : Type 0
