@@ -16,12 +16,11 @@ renumber {A} {x} {n} {m} {o} e d = e ∙ ap (λ (k : ℕ). (k, o)) (sym d)
 -- ---- a survey that answers r and leaves this list
 
 module _ (x : Report × List ℕ) (before : List ℕ) (r : Surveyed) (list : List ℕ) (e : x ≡ (reportOf r, list)) where
+  told : (y : Surveyed) → r ≡ y → surveyResult x before ≡ surveyResult (reportOf y, list) before
+  told y er = ap (λ (z : Report × List ℕ). surveyResult z before) (e ∙ ap (λ (s : Surveyed). (reportOf s, list)) er)
+
   pub survey-counted : (c : Counts) (five : List ℕ) → r ≡ Counted c → five ≡ numbers c → surveyResult x before ≡ (0, (five, list))
-  survey-counted c five er ef =
-      ap (λ (y : Report × List ℕ). surveyResult y before) (e ∙ ap (λ (s : Surveyed). (reportOf s, list)) er)
-      ∙ ap (λ (l : List ℕ). (0, (l, list))) (sym ef)
+  survey-counted c five er ef = told (Counted c) er ∙ ap (λ (l : List ℕ). (0, (l, list))) (sym ef)
 
   pub survey-refused : (f : Refusal) (n : ℕ) → r ≡ Refused f → n ≡ refusalNumber f → surveyResult x before ≡ (n, (before, list))
-  survey-refused f n er en =
-      ap (λ (y : Report × List ℕ). surveyResult y before) (e ∙ ap (λ (s : Surveyed). (reportOf s, list)) er)
-      ∙ ap (λ (k : ℕ). (k, (before, list))) (sym en)
+  survey-refused f n er en = told (Refused f) er ∙ ap (λ (k : ℕ). (k, (before, list))) (sym en)
