@@ -1,7 +1,6 @@
 -- What a survey refuses, and what its checks show. Assumes nothing.
-use mathlib.Core.Path.{_≡_, refl, ap, ap₂, _∙_}
-use mathlib.Core.Bool.{Bool, true, false, cond}
-use mathlib.Core.List.{List, [], _∷_, _++_}
+use mathlib.Core.Path.{_≡_, ap, _∙_}
+use mathlib.Core.List.{List, [], _∷_}
 use mathlib.Core.Option.{Option, none, some}
 use Prim.Native.Nat.{ℕ, _<_, _≤_}
 use lib.Dec.{ltb}
@@ -11,15 +10,14 @@ use Rattle.mode.specs.Sealing.{Triple, Key}
 use Rattle.verdict.specs.declared.Done.{Done}
 use Rattle.verdict.specs.declared.Done.the-variants as D
 use Rattle.verdict.specs.declared.Refusal.{Refusal}
-use Rattle.verdict.specs.Answers.{Rule, rule, firstOf, settleBy, refusalNumber, doneOption}
+use Rattle.verdict.specs.Answers.{Rule, rule, firstOf, firstSome, settleBy, refusalNumber, doneOption}
 use Rattle.verdict.specs.Judging.{key, triple}
-use Rattle.verdict.proofs.Rules.{only-rule, none-left, none-right}
+use Rattle.verdict.proofs.Rules.{only-rule, none-left, none-right, first-both}
 use Rattle.history.specs.Volume.{shape, isShape, volumeRules, mirror}
 use Rattle.history.proofs.Refusals.{Common, common}
 use Rattle.images.specs.Lent.{Room}
 use Rattle.images.proofs.Rooms.{has-room}
 use Rattle.survey.specs.Survey.{Report, refused, surveyRules, verdictAt, surveyed, surveyOutcome}
-use Rattle.survey.specs.Inner.{orElse}
 
 -- ---- the refusals
 
@@ -44,19 +42,6 @@ module _ (v : Triple) (k : Key) (s n : ℕ) (list : List ℕ) where
 
 -- ---- the checks, by what they answer
 
--- the first refusal of two lists of rules
-first-both : (xs ys : List Rule) → firstOf (xs ++ ys) ≡ orElse (firstOf xs) (firstOf ys)
-first-both [] ys = refl
-first-both (x ∷ xs) ys = go (x .condition) (first-both xs ys)
-  where
-    go : (b : Bool) → firstOf (xs ++ ys) ≡ orElse (firstOf xs) (firstOf ys)
-        → cond b (some (x .number)) (firstOf (xs ++ ys)) ≡ orElse (cond b (some (x .number)) (firstOf xs)) (firstOf ys)
-    go true e = refl
-    go false e = e
-
-pub first-refused : {a : Done} {f : Refusal} (o : Option ℕ) → a ≡ D.Refused f → orElse (doneOption a) o ≡ some (refusalNumber f)
-first-refused o e = ap (λ (x : Done). orElse (doneOption x) o) e
-
 module _ {n room : ℕ} where
   pub list-short : room < n → firstOf (rule 11 (ltb room n) ∷ []) ≡ some 11
   list-short h = simp (lt-ltb room n h)
@@ -66,9 +51,8 @@ module _ {n room : ℕ} where
 
 -- of a volume of these lengths, and of a list
 pub checked-first : (k : Key) (s n l g r room : ℕ) {a b d : Option ℕ} → firstOf (volumeRules k s (shape s n l g r)) ≡ a → firstOf (rule 11 (ltb room n) ∷ []) ≡ b
-    → orElse a b ≡ d → firstOf (surveyRules k s n (shape s n l g r) room) ≡ d
-checked-first k s n l g r room ea eb ed =
-    first-both (volumeRules k s (shape s n l g r)) (rule 11 (ltb room n) ∷ []) ∙ ap₂ orElse ea eb ∙ ed
+    → d ≡ firstSome a b → firstOf (surveyRules k s n (shape s n l g r) room) ≡ d
+checked-first k s n l g r room ea eb ed = first-both (rule 11 (ltb room n) ∷ []) (volumeRules k s (shape s n l g r)) ea eb ed
 
 -- of these images and this list
 module _ (k l g r list : List ℕ) (s n : ℕ) {d : Done} (e : firstOf (surveyRules (key k) s n (shape s n (length l) (length g) (length r)) (length list)) ≡ doneOption d) where

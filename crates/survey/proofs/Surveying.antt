@@ -13,8 +13,8 @@ use Rattle.aes.specs.Columns.{roundTable}
 use Rattle.mode.specs.declared.Context.{Context}
 use Rattle.mode.specs.declared.Prepared.{Prepared}
 use Rattle.mode.specs.Prepared.{PreparedFor, Ready}
-use Rattle.mode.specs.Scheme.{Scheme}
-use Rattle.mode.specs.Sealing.{tweak}
+use Rattle.mode.specs.Scheme.{Scheme, dcm, scheme}
+use Rattle.mode.specs.Sealing.{tweak, sealed}
 use Rattle.block.specs.Value.{value}
 use Rattle.block.specs.Bytes.{part}
 use Rattle.verdict.specs.declared.Judged.{Judged}
@@ -252,5 +252,5 @@ verdict-by w p m s i l g r out new j em e = record {
 
 pub survey-keyed : (k : List ℕ) (r : Prepared) → PreparedFor k r → (s n : ℕ) (l g x list : List ℕ) {a : Report × List ℕ}
     → surveyed (verdictBy (schemeOf (r .words) (r .powers)) s l g x) n list ≡ a → surveyed (verdictAt (mirror (key k)) s (triple l g x)) n list ≡ a
-unfolding judge grade fitsTwo fits candidate mirror
+unfolding judge grade fitsTwo fits candidate mirror sealed scheme dcm
 survey-keyed k r e s n l g x list d = sym (ap (λ (S : Scheme). surveyed (verdictBy S s l g x) n list) (scheme-is k r e)) ∙ d

@@ -2,7 +2,6 @@
 use mathlib.Core.Path.{_≡_}
 use mathlib.Core.Bool.{Bool, cond}
 use mathlib.Core.List.{List}
-use mathlib.Core.Option.{Option, none, some}
 use Prim.Native.Nat.{ℕ, suc}
 use lib.ListN.{set}
 use Rattle.mode.specs.Sealing.{tweak}
@@ -14,11 +13,6 @@ use Rattle.verdict.specs.Verdict.{Verdict, judge}
 use Rattle.history.specs.Answers.{isWhole, isDoubtful, isClashing, isLost}
 use Rattle.images.specs.Lent.{placesOf}
 use Rattle.survey.specs.declared.Counts.{Counts}
-
--- the first refusal of two
-abbrev pub orElse : Option ℕ → Option ℕ → Option ℕ
-orElse none later = later
-orElse (some k) later = some k
 
 -- the verdicts by the mode, with the tweak of each number
 abbrev pub verdictBy : Scheme → ℕ → List ℕ → List ℕ → List ℕ → ℕ → Verdict

@@ -17,7 +17,7 @@ ghost use Rattle.history.specs.Volume.{mirror};
 ghost use Rattle.history.specs.Volume as W;
 ghost use Rattle.images.specs.Lent.{Room, Within};
 ghost use Rattle.survey.specs.Survey.{surveyRules, verdictAt, health, counted, surveyed, reportOf, surveyOutcome};
-ghost use Rattle.survey.specs.Inner.{orElse, verdictBy, Tells, CountsOne, ListsOne};
+ghost use Rattle.survey.specs.Inner.{verdictBy, Tells, CountsOne, ListsOne};
 
 // How many sectors have each verdict, and the whole ones in thousandths.
 pub struct Counts {
@@ -45,22 +45,13 @@ fn check_list(n: usize, room: usize) -> Done
     }
 }
 
-fn first_refusal(earlier: Done, later: Done) -> Done
-    ensures { λ d. ⌜ orElse (doneOption earlier) (doneOption later) ≡ doneOption d ⌝ }
-{
-    match earlier {
-        Done::Done => later,
-        Done::Refused(f) => Done::Refused(f),
-    }
-}
-
 // Refusals 1, 2, 8 and 11 of a survey with a list of this length.
 fn check_survey(key: &[u8], s: usize, n: usize, l: usize, g: usize, r: usize, room: usize) -> Done
     ensures { λ d. ⌜ firstOf (surveyRules (C.key (now (key .entry))) s n (W.shape s n l g r) room) ≡ doneOption d ⌝ }
 {
     let volume = history::check_volume(key, s, n, l, g, r);
     let list = check_list(n, room);
-    first_refusal(volume, list)
+    verdict::first_refusal(volume, list)
 }
 
 // Judges sector i; m is the context of any sector, since only the tweak differs.

@@ -8,8 +8,8 @@ use Rattle.aes.specs.Columns.{roundTable}
 use Rattle.mode.specs.declared.Context.{Context}
 use Rattle.mode.specs.declared.Prepared.{Prepared}
 use Rattle.mode.specs.Prepared.{PreparedFor, Ready}
-use Rattle.mode.specs.Scheme.{Place, Scheme, scheme}
-use Rattle.mode.specs.Sealing.{Key, Triple, tweak}
+use Rattle.mode.specs.Scheme.{Place, Scheme, dcm, scheme}
+use Rattle.mode.specs.Sealing.{Key, Triple, tweak, sealed}
 use Rattle.verdict.specs.Judging.{key, verdictOutcome, schemeOf, judgedBy}
 use Rattle.verdict.specs.Verdict.{fits, fitsTwo, candidate, grade, judge}
 use Rattle.verdict.proofs.Prepared.{ContextOf, scheme-is}
@@ -19,7 +19,7 @@ use Rattle.volume.specs.Inner.{sealInto, lateOutcome}
 
 -- the mirror at a number is the mode at its tweak
 late-mirror : (K : Key) (s i : ℕ) (v : Triple) (c : Call) → lateOutcome (scheme K) (tweak i) s i v c ≡ lateOutcome (mirror K) i s i v c
-unfolding lateOutcome sealInto judge grade fitsTwo fits candidate mirror
+unfolding lateOutcome sealInto judge grade fitsTwo fits candidate mirror sealed scheme dcm
 late-mirror K s i v blank = refl
 late-mirror K s i v (first P) = refl
 late-mirror K s i v (second P) = refl
@@ -43,11 +43,11 @@ module _ (k : List ℕ) (r : Prepared) (e : PreparedFor k r) (m : Context) (i : 
 
   pub verdict-keyed : (s : ℕ) (l g x out : List ℕ) {o : ℕ × List ℕ}
       → judgedBy (r .words) (r .powers) m (part s i l) (part 16 i g) (part s i x) out ≡ o → verdictOutcome (judge (mirror (key k)) i (placesOf s i l g x)) out ≡ o
-  unfolding judge grade fitsTwo fits candidate mirror
+  unfolding judge grade fitsTwo fits candidate mirror sealed scheme dcm
   verdict-keyed s l g x out y = sym (moved (λ R U. verdictOutcome (judge R U (placesOf s i l g x)) out)) ∙ y
 
   pub seals-keyed : (s : ℕ) (P : List ℕ) (places : List Place) (v : Triple) {x : Triple} → x ≡ sealInto S T s i P places v → x ≡ sealInto (mirror (key k)) i s i P places v
-  unfolding sealInto mirror
+  unfolding sealInto mirror sealed scheme dcm
   seals-keyed s P places v x = x ∙ moved (λ R U. sealInto R U s i P places v)
 
 -- what is prepared belongs together
