@@ -1,4 +1,4 @@
-use mathlib.Core.Path.{sym, _∙_}
+use native.Mathlib.Omega.{arith}
 use Rattle.block.proofs.Lists.{bytes-all}
 use Rattle.verdict.proofs.Judging.{Known, known-of, sum-whole, sum-fits, sum-fails}
 use borrow.Author.Needs.{needs}
@@ -49,7 +49,7 @@ equal-requires : tie.Need-equal-requires
 equal-requires c κs = search needs
 
 copy-requires : tie.Need-copy-requires
-copy-requires c κs = let pre = start (c .before .before .before .before .before .before) .pre in pre .0 .out-size ∙ sym (c .before .before .before .before .before .before .before .before .before .before .before .before .before .before .before .before .before .xor-bytes .kept .1 .1 .0 ∙ pre .1)
+copy-requires c κs = let pre = start (c .before .before .before .before .before .before) .pre in omega arith
 
 same-length : tie.Need-same-length
 same-length c = search needs
@@ -70,8 +70,8 @@ judge-fitting-sum-requires : tie.Need-judge-fitting-sum-requires
 judge-fitting-sum-requires c κs =
     let o = c .before .before .before .before .before .before .before in
     let a = start o .args in
-    let scratch-size = o .before .before .before .before .transform .kept .1 .1 .1 .1 .1 .1 .0 ∙ start o .pre .2 in
-    (start o .pre .0, scratch-size, sum-fits (a .w .now) (a .powers .now) (a .m) (a .local .now) (a .tag .now) (a .remote .now) (known o) (o .before .before .before .before .before .before .before .before .before .before .before .xor-bytes .ensures) (o .before .before .before .before .before .before .before .tag-block .ensures) (o .before .before .before .before .transform .ensures) (o .same .ensures) (c .before .before .before .before .before .load .ensures) (c .before .before .before .before .equal .ensures) (c .before .before .before .before .before .before .if1 .taken) (c .before .before .before .if2 .left))
+    let pre = start o .pre in
+    (pre .0, omega arith, sum-fits (a .w .now) (a .powers .now) (a .m) (a .local .now) (a .tag .now) (a .remote .now) (known o) (o .before .before .before .before .before .before .before .before .before .before .before .xor-bytes .ensures) (o .before .before .before .before .before .before .before .tag-block .ensures) (o .before .before .before .before .transform .ensures) (o .same .ensures) (c .before .before .before .before .before .load .ensures) (c .before .before .before .before .equal .ensures) (c .before .before .before .before .before .before .if1 .taken) (c .before .before .before .if2 .left))
 
 same-length-4 : tie.Need-same-length-4
 same-length-4 c = search needs
@@ -89,9 +89,8 @@ judge-failing-sum-requires : tie.Need-judge-failing-sum-requires
 judge-failing-sum-requires c κs =
     let o = c .before .before .before .before in
     let a = start o .args in
-    let sum-size = o .before .before .before .before .before .before .before .before .before .before .before .xor-bytes .kept .1 .1 .0 ∙ start o .pre .1 in
-    let scratch-size = o .before .before .before .before .transform .kept .1 .1 .1 .1 .1 .1 .0 ∙ start o .pre .2 in
-    (start o .pre .0, sum-size, scratch-size, sum-fails (a .w .now) (a .powers .now) (a .m) (a .local .now) (a .tag .now) (a .remote .now) (known o) (o .before .before .before .before .before .before .before .before .before .before .before .xor-bytes .ensures) (o .before .before .before .before .before .before .before .tag-block .ensures) (o .before .before .before .before .transform .ensures) (o .same .ensures) (c .before .before .before .if1 .left))
+    let pre = start o .pre in
+    (pre .0, omega arith, omega arith, sum-fails (a .w .now) (a .powers .now) (a .m) (a .local .now) (a .tag .now) (a .remote .now) (known o) (o .before .before .before .before .before .before .before .before .before .before .before .xor-bytes .ensures) (o .before .before .before .before .before .before .before .tag-block .ensures) (o .before .before .before .before .transform .ensures) (o .same .ensures) (c .before .before .before .if1 .left))
 
 same-length-7 : tie.Need-same-length-7
 same-length-7 c = search needs
