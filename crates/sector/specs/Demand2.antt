@@ -24,8 +24,8 @@ pub record SealsTo (k : Key) (s address : ℕ) (d : Side) (x g P : List ℕ) : T
   pub sector : x ≡ on (sealed k address P) (placeOf d)
   pub its-tag : g ≡ sealed k address P .tag
 
--- judging answers 0 and the plaintext exactly if whole, 81, 82 or 83 and the plaintext exactly if doubtful at that place, and 6 or 7 with
--- the output as it was exactly if lost or clashing
+-- judging answers 0 and the plaintext exactly if whole, `81`, `82` or `83` and the plaintext exactly if doubtful at that place, and 6 or 7
+-- with the output as it was exactly if lost or clashing
 pub record Judges (k : Key) (s address : ℕ) (t : Triple) (out : List ℕ) : Type 0 where
   pub at-whole : (P : List ℕ) → (judgeCall k address t out ≡ (0, P)) ↔ Means s (scheme k) (tweak address) t (whole P)
   pub at-doubtful : (d : Place) (P : List ℕ) → (judgeCall k address t out ≡ (doubtNumber d, P)) ↔ Means s (scheme k) (tweak address) t (doubtful d P)
@@ -48,7 +48,7 @@ pub record Demand2 (k : Key) (s : ℕ) : Type 0 where
   -- sealing equals the mode, whatever the three outputs held
   pub seals : (address : ℕ) (P : List ℕ) (out : Triple) → Plain s P → ((p : Place) → length (on out p) ≡ wide s p)
       → sealCall k address P out ≡ (0, sealed k address P)
-  -- each call accepts exactly what it is to accept: every sector and tag of s and 16 bytes
+  -- for all bytes in sectors and tags of these lengths, whatever the output held: judging, opening and rebuilding answer what is meant
   pub judges : (address : ℕ) (t : Triple) (out : List ℕ) → Sector s t → length out ≡ s → Judges k s address t out
   pub opens : (address : ℕ) (d : Side) (x g out : List ℕ) → Plain s x → Plain 16 g → length out ≡ s → Opens k s address d x g out
   pub rebuilds : (address : ℕ) (d : Side) (x g out : List ℕ) → Plain s x → Plain 16 g → length out ≡ s → Rebuilds k s address d x g out

@@ -38,7 +38,9 @@ returns : tie.Need-returns
 returns c =
     let o = c .before .before in
     let a = start o .args in
-    clash-both (a .w .now) (a .powers .now) (a .m) (a .local .now) (a .tag .now) (a .remote .now) (known o) (a .out .now) (start o .pre .3) (o .before .before .before .before .before .before .opens .ensures) (o .before .before .opens2 .ensures) (c .before .if1 .taken) (c .if2 .taken)
+    let left = o .before .before .before .before .before .before .opens .ensures in
+    let right = o .before .before .opens2 .ensures in
+    clash-both (a .w .now) (a .powers .now) (a .m) (a .local .now) (a .tag .now) (a .remote .now) (known o) (a .out .now) (start o .pre .3) left right (c .before .if1 .taken) (c .if2 .taken)
 
 copy-requires : tie.Need-copy-requires
 copy-requires c κs = search needs
@@ -56,7 +58,9 @@ returns-2 : tie.Need-returns-2
 returns-2 c =
     let o = c .before .before .before .before .before .before .before in
     let a = start o .args in
-    left-only (a .w .now) (a .powers .now) (a .m) (a .local .now) (a .tag .now) (a .remote .now) (known o) (a .out .now) (start o .pre .3) (o .before .before .before .before .before .before .opens .ensures) (o .before .before .opens2 .ensures) (c .before .before .before .before .before .before .if1 .taken) (c .before .before .before .before .before .if2 .left) (c .before .before .copy .ensures)
+    let left = o .before .before .before .before .before .before .opens .ensures in
+    let right = o .before .before .opens2 .ensures in
+    left-only (a .w .now) (a .powers .now) (a .m) (a .local .now) (a .tag .now) (a .remote .now) (known o) (a .out .now) (start o .pre .3) left right (c .before .before .before .before .before .before .if1 .taken) (c .before .before .before .before .before .if2 .left) (c .before .before .copy .ensures)
 
 copy-requires-2 : tie.Need-copy-requires-2
 copy-requires-2 c κs = search needs
@@ -74,7 +78,9 @@ returns-3 : tie.Need-returns-3
 returns-3 c =
     let o = c .before .before .before .before .before .before .before in
     let a = start o .args in
-    right-only (a .w .now) (a .powers .now) (a .m) (a .local .now) (a .tag .now) (a .remote .now) (known o) (a .out .now) (start o .pre .3) (o .before .before .before .before .before .before .opens .ensures) (o .before .before .opens2 .ensures) (c .before .before .before .before .before .before .if1 .left) (c .before .before .before .before .before .if3 .taken) (c .before .before .copy2 .ensures)
+    let left = o .before .before .before .before .before .before .opens .ensures in
+    let right = o .before .before .opens2 .ensures in
+    right-only (a .w .now) (a .powers .now) (a .m) (a .local .now) (a .tag .now) (a .remote .now) (known o) (a .out .now) (start o .pre .3) left right (c .before .before .before .before .before .before .if1 .left) (c .before .before .before .before .before .if3 .taken) (c .before .before .copy2 .ensures)
 
 same-length-9 : tie.Need-same-length-9
 same-length-9 c = search needs
@@ -86,7 +92,9 @@ returns-4 : tie.Need-returns-4
 returns-4 c =
     let o = c .before .before in
     let a = start o .args in
-    none-fits (a .w .now) (a .powers .now) (a .m) (a .local .now) (a .tag .now) (a .remote .now) (known o) (a .out .now) (start o .pre .3) (o .before .before .before .before .before .before .opens .ensures) (o .before .before .opens2 .ensures) (c .before .if1 .left) (c .if3 .left)
+    let left = o .before .before .before .before .before .before .opens .ensures in
+    let right = o .before .before .opens2 .ensures in
+    none-fits (a .w .now) (a .powers .now) (a .m) (a .local .now) (a .tag .now) (a .remote .now) (known o) (a .out .now) (start o .pre .3) left right (c .before .if1 .left) (c .if3 .left)
 
 pub judge-failing-sum-spec : {M : Type 1} → statement M
 judge-failing-sum-spec =

@@ -64,14 +64,22 @@ returns : tie.Need-returns
 returns c =
     let o = c .before .before .before .before .before .before .before .before .before in
     let a = start o .args in
-    sum-whole (a .w .now) (a .powers .now) (a .m) (a .local .now) (a .tag .now) (a .remote .now) (known o) (o .before .before .before .before .before .before .before .before .before .before .before .xor-bytes .ensures) (o .before .before .before .before .before .before .before .tag-block .ensures) (o .before .before .before .before .transform .ensures) (o .same .ensures) (c .before .before .before .before .before .before .before .load .ensures) (c .before .before .before .before .before .before .equal .ensures) (c .before .before .before .before .before .before .before .before .if1 .taken) (c .before .before .before .before .before .if2 .taken) (a .out .now) (c .before .before .copy .ensures)
+    let xored = o .before .before .before .before .before .before .before .before .before .before .before .xor-bytes .ensures in
+    let tagged = o .before .before .before .before .before .before .before .tag-block .ensures in
+    let side = o .before .before .before .before .transform .ensures in
+    let compared = o .same .ensures in
+    sum-whole (a .w .now) (a .powers .now) (a .m) (a .local .now) (a .tag .now) (a .remote .now) (known o) xored tagged side compared (c .before .before .before .before .before .before .before .load .ensures) (c .before .before .before .before .before .before .equal .ensures) (c .before .before .before .before .before .before .before .before .if1 .taken) (c .before .before .before .before .before .if2 .taken) (a .out .now) (c .before .before .copy .ensures)
 
 judge-fitting-sum-requires : tie.Need-judge-fitting-sum-requires
 judge-fitting-sum-requires c κs =
     let o = c .before .before .before .before .before .before .before in
     let a = start o .args in
+    let xored = o .before .before .before .before .before .before .before .before .before .before .before .xor-bytes .ensures in
+    let tagged = o .before .before .before .before .before .before .before .tag-block .ensures in
+    let side = o .before .before .before .before .transform .ensures in
+    let compared = o .same .ensures in
     let pre = start o .pre in
-    (pre .0, omega arith, sum-fits (a .w .now) (a .powers .now) (a .m) (a .local .now) (a .tag .now) (a .remote .now) (known o) (o .before .before .before .before .before .before .before .before .before .before .before .xor-bytes .ensures) (o .before .before .before .before .before .before .before .tag-block .ensures) (o .before .before .before .before .transform .ensures) (o .same .ensures) (c .before .before .before .before .before .load .ensures) (c .before .before .before .before .equal .ensures) (c .before .before .before .before .before .before .if1 .taken) (c .before .before .before .if2 .left))
+    (pre .0, omega arith, sum-fits (a .w .now) (a .powers .now) (a .m) (a .local .now) (a .tag .now) (a .remote .now) (known o) xored tagged side compared (c .before .before .before .before .before .load .ensures) (c .before .before .before .before .equal .ensures) (c .before .before .before .before .before .before .if1 .taken) (c .before .before .before .if2 .left))
 
 same-length-4 : tie.Need-same-length-4
 same-length-4 c = search needs
@@ -89,8 +97,12 @@ judge-failing-sum-requires : tie.Need-judge-failing-sum-requires
 judge-failing-sum-requires c κs =
     let o = c .before .before .before .before in
     let a = start o .args in
+    let xored = o .before .before .before .before .before .before .before .before .before .before .before .xor-bytes .ensures in
+    let tagged = o .before .before .before .before .before .before .before .tag-block .ensures in
+    let side = o .before .before .before .before .transform .ensures in
+    let compared = o .same .ensures in
     let pre = start o .pre in
-    (pre .0, omega arith, omega arith, sum-fails (a .w .now) (a .powers .now) (a .m) (a .local .now) (a .tag .now) (a .remote .now) (known o) (o .before .before .before .before .before .before .before .before .before .before .before .xor-bytes .ensures) (o .before .before .before .before .before .before .before .tag-block .ensures) (o .before .before .before .before .transform .ensures) (o .same .ensures) (c .before .before .before .if1 .left))
+    (pre .0, omega arith, omega arith, sum-fails (a .w .now) (a .powers .now) (a .m) (a .local .now) (a .tag .now) (a .remote .now) (known o) xored tagged side compared (c .before .before .before .if1 .left))
 
 same-length-7 : tie.Need-same-length-7
 same-length-7 c = search needs
