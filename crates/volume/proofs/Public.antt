@@ -15,7 +15,7 @@ use Rattle.verdict.specs.Judging.{key, triple, verdictOutcome}
 use Rattle.verdict.specs.Verdict.{judge}
 use Rattle.history.specs.Answers.{Answer, reply, answerNumber, output}
 use Rattle.history.specs.Volume.{Args, args, Call, blank, read, shape, isShape, sectorRules, lengthRules, lengths, early, late, writes, result, unless, sector, answer, after, mirror, outcome, readOutcome}
-use Rattle.history.proofs.Promises.{read-by}
+use Rattle.history.proofs.Outcomes.{read-by}
 use Rattle.history.proofs.Refusals.{passed, long-3, refusal-late, refusal-early, answer-late, early-answer}
 use Rattle.images.specs.Lent.{Within}
 use Rattle.images.proofs.Rooms.{has-room, within-room, within-same}
