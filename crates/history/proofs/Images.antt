@@ -103,11 +103,11 @@ module _ (seals : Key → Scheme) (v : Triple) (a : Args) (c : Call) where
   leaves-refused (cut t) k e = ap (λ (r : Option ℕ). unless r v (accepted (cut t))) e
 
 module _ (seals : Key → Scheme) (v : Triple) (a : Args) (c : Call) (f : Fate) (w : Triple) where
-  -- what the call, with its own key, s and n, leaves: the images w of the same lengths, its sector, and the others as they were
+  -- what the call, with its own key, s and n, leaves: the other sectors as they were, its own, and images w of the same lengths
   pub record Left : Type 0 where
-    pub images : Images (a .size) (a .count) w
-    pub mine : sector w a ≡ sectorAfter (a .size) (sealing seals a) (a .number) (sector v a) c f
     pub others : (j : ℕ) → (j ≡ a .number → ⊥) → sectorOf (a .size) j w ≡ sectorOf (a .size) j v
+    pub mine : sector w a ≡ sectorAfter (a .size) (sealing seals a) (a .number) (sector v a) c f
+    pub images : Images (a .size) (a .count) w
 
 module _ (seals : Key → Scheme) (sound : Sound seals) where
   -- a call that passes the early checks has a lawful sealing
@@ -131,9 +131,9 @@ module _ (seals : Key → Scheme) (sound : Sound seals) where
         let pl : AllPlain (a .size) b ps = writes-plain (a .size) (sealing seals a) (passed-lawful v a (passed .common)) (a .number) (sector v a) here c f cuts (sized a c (passed .lengths) lent) in
         let q : leavesCall seals v a c f ≡ accepted seals v a c f = leaves-accepted seals v a c f e in
         record {
-          images = subst (λ (u : Triple). Images (a .size) (a .count) u) (sym q) (images-all (a .size) (a .count) (a .number) (passed .number) b ps pl v before);
-          mine = ap (λ (u : Triple). sector u a) q ∙ sector-all (a .size) (a .count) (a .number) (passed .number) b ps pl v before;
           others = λ j n. ap (sectorOf (a .size) j) q ∙ others-all (a .size) (a .count) (a .number) (passed .number) b ps pl v before j n;
+          mine = ap (λ (u : Triple). sector u a) q ∙ sector-all (a .size) (a .count) (a .number) (passed .number) b ps pl v before;
+          images = subst (λ (u : Triple). Images (a .size) (a .count) u) (sym q) (images-all (a .size) (a .count) (a .number) (passed .number) b ps pl v before);
         }
 
     -- what was held of the sector, and agreed with its places, agrees with them after the machine's step
