@@ -25,15 +25,15 @@ lent-patch w i image b = ap (λ (z : List ℕ). take (i * w) image ++ (b ++ z)) 
 part-size : (w i : ℕ) (image : List ℕ) → i * w + w ≤ length image → length (midOf (i * w) (i * w + w - i * w) image) ≡ w
 part-size w i image h = simp (length-take, length-drop) (omega arith)
 
--- what judging asks of them
-pub lent-parts : (t w p : List ℕ) (m : Context) (s i : ℕ) (l g r out sum scratch : List ℕ)
-    → Ready t w p m × Within s i (length l) (length g) (length r) × (length out ≡ s) × (length sum ≡ s) × (length scratch ≡ s)
+-- what judging asks of the sides' parts, a tag b, an output, and scratch of x and y bytes
+pub lent-parts : (s i : ℕ) (l r : List ℕ) {t w p b out : List ℕ} {m : Context} {g x y : ℕ}
+    → Ready t w p m → Within s i (length l) g (length r) → length b ≡ 16 → length out ≡ s → x ≡ s → y ≡ s
     → let lent = midOf (i * s) (i * s + s - i * s) l in
-    Lent t w p m lent (midOf (i * 16) (i * 16 + 16 - i * 16) g) (midOf (i * s) (i * s + s - i * s) r) out × (length sum ≡ length lent) × (length scratch ≡ length lent)
-lent-parts t w p m s i l g r out sum scratch (ready, z, eo, es, ec) =
+    Lent t w p m lent b (midOf (i * s) (i * s + s - i * s) r) out × (x ≡ length lent) × (y ≡ length lent)
+lent-parts s i l r ready z eb eo ex ey =
     let el = part-size s i l (z .local-end) in
     let er = part-size s i r (z .remote-end) in
-    (record { ready = ready; blocks = ap (λ (n : ℕ). n % 16) el ∙ z .blocks; most = omega arith; tag-size = part-size 16 i g (z .tag-end); remote-size = er ∙ sym el; out-size = eo ∙ sym el }, es ∙ sym el, ec ∙ sym el)
+    (record { ready = ready; blocks = ap (λ (n : ℕ). n % 16) el ∙ z .blocks; most = omega arith; tag-size = eb; remote-size = er ∙ sym el; out-size = eo ∙ sym el }, ex ∙ sym el, ey ∙ sym el)
 
 -- b comes back as b′
 pub lent-written : (w i : ℕ) (image : List ℕ) {b b′ : List ℕ} → b ≡ b′ → putMid (i * w) (i * w + w - i * w) image b ≡ patch w i b′ image

@@ -95,18 +95,16 @@ module _ (k : List ℕ) (s n i : ℕ) (l g r : List ℕ) where
     pub blank-size : s ≤ 4096
     blank-size = call-within blank checks q .1 .most
 
-    pub blank-within : (length k ≡ 32) × Within (length zeros) i (length l) (length g) (length r)
-    blank-within =
-        let w = call-within blank checks q in
-        (w .0, within-same (prefix-size s 0 (w .1 .most)) (w .1))
+    pub blank-within : {m : ℕ} → m ≡ s → (length k ≡ 32) × Within m i (length l) (length g) (length r)
+    blank-within e = let w = call-within blank checks q in (w .0, within-same e (w .1))
 
     pub blank-done : {x : Triple} → x ≡ sealInto (mirror (key k)) i (length zeros) i zeros allPlaces v → outcome mirror v a blank ≡ (0, x)
     unfolding lateOutcome
     blank-done {x} e =
         let z = zeros-are s blank-size in
-        let eq : x ≡ sealInto (mirror (key k)) i s i (replicate s 0) allPlaces v =
-        e ∙ (λ j. sealInto (mirror (key k)) i (prefix-size s 0 blank-size j) i (z j) allPlaces v) in
-        call-done blank checks q (ap (λ (u : Triple). (0, u)) (sym eq))
+        let y : Triple = sealInto (mirror (key k)) i s i (replicate s 0) allPlaces v in
+        let same : x ≡ y = e ∙ (λ j. sealInto (mirror (key k)) i (prefix-size s 0 blank-size j) i (z j) allPlaces v) in
+        call-done blank checks q (ap (λ (u : Triple). (0, u)) (sym same))
 
   -- ---- read
 

@@ -1,3 +1,5 @@
+use native.Mathlib.Omega.{arith}
+use lib.ListN.{length-take, length-drop}
 use Rattle.images.proofs.Parts.{lent-parts, lent-judged}
 use borrow.Author.Needs.{needs}
 use Rattle.images.proofs.judge_part.Statement.{statement}
@@ -43,7 +45,11 @@ part-judge-in-end-3 : tie.Need-part-judge-in-end-3
 part-judge-in-end-3 c = search needs
 
 judge-in-requires : tie.Need-judge-in-requires
-judge-in-requires c κs = search (lent-parts, c .before .before .before .before .before .before .before .before .before .before .before .before .before .pre)
+judge-in-requires c κs =
+    let start = c .before .before .before .before .before .before .before .before .before .before .before .before .before in
+    let a = start .args in
+    let given = start .pre in
+    lent-parts (a .s) (a .i) (a .local .now) (a .remote .now) (given .0) (given .1) (simp (length-take, length-drop) (omega arith)) (search) (search) (search)
 
 same-length : tie.Need-same-length
 same-length c = search needs

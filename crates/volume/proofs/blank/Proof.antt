@@ -16,7 +16,11 @@ slice-aggregate-blank-checked : tie.Need-slice-aggregate-blank-checked
 slice-aggregate-blank-checked c = search (needs, prefix-size, blank-size)
 
 blank-checked-requires : tie.Need-blank-checked-requires
-blank-checked-requires c κs = let a = c .before .before .before .before .before .before .before .before .before .before .before .args in search (blank-within (a .key .now) (a .s) (a .n) (a .i) (a .local .now) (a .tags .now) (a .remote .now))
+blank-checked-requires c κs =
+    let a = c .before .before .before .before .before .before .before .before .before .before .before .args in
+    let checks = c .before .before .before .before .before .before .check .ensures in
+    let passed = c .before .before .before .before .enum-told .given .1 in
+    blank-within (a .key .now) (a .s) (a .n) (a .i) (a .local .now) (a .tags .now) (a .remote .now) checks passed (prefix-size (a .s) _ (blank-size (a .key .now) (a .s) (a .n) (a .i) (a .local .now) (a .tags .now) (a .remote .now) checks passed))
 
 enum-known-checked : tie.Need-enum-known-checked
 enum-known-checked c = search needs

@@ -64,9 +64,12 @@ same-length-12 c = search needs
 
 returns-2 : tie.Need-returns-2
 returns-2 c =
-    let judged = c .before .before .before .before .before .before .before .before .before .before .before .before .before .before .before .before .before .before .before .before .judge-part in
-    let e = judged .kept .1 .1 .1 .1 .1 .1 .1 .1 .1 .0 ∙ c .before .before .before .before .before .before .before .before .before .before .before .before .before .before .before .before .before .before .before .before .before .before .before .before .before .before .before .before .before .before .before .before .before .before .pre .2 in
-    search (mend-doubtful, judged .ensures, c .before .before .before .before .before .before .write-place .ensures)
+    let start = c .before .before .before .before .before .before .before .before .before .before .before .before .before .before .before .before .before .before .before .before .before .before .before .before .before .before .before .before .before .before .before .before .before .before in
+    let a = start .args in
+    let found = c .before .before .before .before .before .before .before .before .before .before .before .before .before .before .before .before .before .before .before .before .judge-part in
+    let e = found .kept .1 .1 .1 .1 .1 .1 .1 .1 .1 .0 ∙ start .pre .2 in
+    mend-doubtful (a .w .now) (a .powers .now) (a .m) (a .s) (a .i) (a .local .now) (a .tags .now) (a .remote .now) (a .plain .now) _ (found .ensures)
+    (c .before .before .before .before .before .before .before .before .before .before .before .before .judged .given .1) e (c .before .before .before .before .before .before .write-place .ensures)
 
 same-length-13 : tie.Need-same-length-13
 same-length-13 c = search needs

@@ -31,7 +31,7 @@ slice-aggregate-judge-part-3 c = search (needs, prefix-size, c .before .before .
 judge-part-requires : tie.Need-judge-part-requires
 judge-part-requires c κs =
     let p = c .before .before .before .before .before .before .before .before .before .before .before .before .before .before .before .before .before .pre in
-    (search prepared-ready, p .1, p .2, prefix-size _ _ (p .1 .most), prefix-size _ _ (p .1 .most))
+    (search prepared-ready, p .1, search (prefix-size, p), search (prefix-size, p), search (prefix-size, p))
 
 same-length : tie.Need-same-length
 same-length c = search needs
