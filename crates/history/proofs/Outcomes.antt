@@ -21,7 +21,7 @@ abbrev pub mended : Scheme → ℕ → ℕ → Triple → Verdict → ℕ × Tri
 mended S s i v w = settle (verdictRefusal w) (foundNumber (verdictDoubt w), writeAll s i (on (S .sealed i (mends w .plain))) (mends w .places) v) v
 
 -- the number and the output of a read
-pub read-by : (w : Verdict) (out : List ℕ) →
+read-by : (w : Verdict) (out : List ℕ) →
     let r = reply (firstOf (judgeRules w)) (gives (verdictDoubt w) (verdictPlain w)) in
     (answerNumber r, output r out) ≡ verdictOutcome w out
 read-by (whole P) out = refl

@@ -3,9 +3,10 @@
 use verdict::Done;
 use verdict::Refusal;
 ghost use mathlib.Core.Path.{_≡_};
-ghost use mathlib.Core.List.{_++_};
+ghost use mathlib.Core.List.{[], _∷_, _++_};
 ghost use Prim.Native.Nat.{_≤_};
-ghost use Rattle.verdict.specs.Answers.{firstOf, doneOption};
+ghost use lib.Dec.{leb};
+ghost use Rattle.verdict.specs.Answers.{rule, firstOf, doneOption};
 ghost use Rattle.verdict.specs.Judging as C;
 ghost use Rattle.history.specs.Volume as W;
 
@@ -48,22 +49,36 @@ pub fn check_volume(key: &[u8], s: usize, n: usize, l: usize, g: usize, r: usize
     }
 }
 
-// These, and 9 of a call on sector i.
+// Refusal 9, of a call on sector i.
+fn check_number(n: usize, i: usize) -> Done
+    ensures { λ d. ⌜ firstOf (rule 9 (leb n i) ∷ []) ≡ doneOption d ⌝ }
+{
+    if i < n {
+        return Done::Done;
+    }
+    Done::Refused(Refusal::SectorNumber)
+}
+
+// Refusal 3, of a plaintext or an output of p bytes.
+fn check_length(p: usize, s: usize) -> Done
+    ensures { λ d. ⌜ firstOf (W.lengthRules p s) ≡ doneOption d ⌝ }
+{
+    if p == s {
+        return Done::Done;
+    }
+    Done::Refused(Refusal::OtherLength)
+}
+
+// 1, 2, 8 and then 9.
 pub fn check(key: &[u8], s: usize, n: usize, i: usize, l: usize, g: usize, r: usize) -> Done
     ensures { λ d. ⌜ firstOf (W.sectorRules (W.shape s n l g r) (W.args (C.key (now (key .entry))) s n i)) ≡ doneOption d ⌝ }
 {
-    let checked = check_volume(key, s, n, l, g, r);
-    match checked {
-        Done::Done => if i < n {
-            Done::Done
-        } else {
-            Done::Refused(Refusal::SectorNumber)
-        },
-        Done::Refused(f) => Done::Refused(f),
-    }
+    let volume = check_volume(key, s, n, l, g, r);
+    let number = check_number(n, i);
+    verdict::first_refusal(volume, number)
 }
 
-// These, and 3 for a plaintext or an output of p bytes.
+// These, and then 3.
 pub fn check_with(
     key: &[u8],
     s: usize,
@@ -76,13 +91,7 @@ pub fn check_with(
 ) -> Done
     ensures { λ d. ⌜ firstOf (W.sectorRules (W.shape s n l g r) (W.args (C.key (now (key .entry))) s n i) ++ W.lengthRules p s) ≡ doneOption d ⌝ }
 {
-    let checked = check(key, s, n, i, l, g, r);
-    match checked {
-        Done::Done => if p == s {
-            Done::Done
-        } else {
-            Done::Refused(Refusal::OtherLength)
-        },
-        Done::Refused(f) => Done::Refused(f),
-    }
+    let sector = check(key, s, n, i, l, g, r);
+    let length = check_length(p, s);
+    verdict::first_refusal(sector, length)
 }

@@ -1,7 +1,6 @@
 -- The calls' outcomes where the early checks refuse, and where they pass. Assumes nothing.
-use mathlib.Core.Path.{_≡_, refl, sym, ap, _∙_, subst}
+use mathlib.Core.Path.{_≡_, sym, ap, _∙_, subst}
 use mathlib.Core.List.{List, _++_}
-use mathlib.Core.Option.{Option, none, some}
 use Prim.Native.Nat.{ℕ, _≤_}
 use native.Mathlib.Omega.{arith}
 use lib.ListN.{length, take, replicate, length-take, length-replicate}
@@ -10,21 +9,15 @@ use Rattle.mode.specs.Sealing.{Triple}
 use Rattle.verdict.specs.declared.Done.{Done}
 use Rattle.verdict.specs.declared.Done.the-variants as D
 use Rattle.verdict.specs.declared.Refusal.{Refusal}
-use Rattle.verdict.specs.Answers.{Rule, firstOf, settle, doneOption, refusalNumber}
+use Rattle.verdict.specs.Answers.{Rule, firstOf, doneOption, refusalNumber}
 use Rattle.verdict.specs.Judging.{key, triple, verdictOutcome}
 use Rattle.verdict.specs.Verdict.{judge}
-use Rattle.history.specs.Answers.{Answer, reply, answerNumber, output}
-use Rattle.history.specs.Volume.{Args, args, Call, blank, read, shape, isShape, sectorRules, lengthRules, lengths, early, late, writes, result, unless, sector, answer, after, mirror, outcome, readOutcome}
-use Rattle.history.proofs.Outcomes.{read-by}
-use Rattle.history.proofs.Refusals.{passed, long-3, refusal-late, refusal-early, answer-late, early-answer}
+use Rattle.history.specs.Volume.{Args, args, Call, blank, read, shape, isShape, sectorRules, lengthRules, lengths, early, sector, mirror, outcome, readOutcome}
+use Rattle.history.proofs.Outcomes.{outcome-early, outcome-late, read-early, read-late}
+use Rattle.history.proofs.Refusals.{passed, long-3}
 use Rattle.images.specs.Lent.{Within}
 use Rattle.images.proofs.Rooms.{has-room, within-room, within-same}
 use Rattle.volume.specs.Inner.{allPlaces, sealInto, lateOutcome}
-
--- a refusal leaves the images
-settled : (o : Option ℕ) (r : Answer) (before after : Triple) → (answerNumber (reply o r), unless o before after) ≡ settle o (answerNumber r, after) before
-settled none r before after = refl
-settled (some n) r before after = refl
 
 -- s zeros, a part of the 4,096
 zeros-are : (s : ℕ) → s ≤ 4096 → take {A = ℕ} s (replicate 4096 0) ≡ replicate s 0
@@ -56,20 +49,11 @@ module _ (k : List ℕ) (s n i : ℕ) (l g r : List ℕ) where
         (e, within-room s n i (length l) (length g) (length r) room (p .number))
 
     pub call-done : d ≡ D.Done → {x : ℕ × Triple} → lateOutcome (mirror (key k)) i s i v c ≡ x → outcome mirror v a c ≡ x
-    unfolding outcome answer after sealInto lateOutcome
-    call-done q x =
-        let S = mirror (key k) in
-        let w = writes s S i (sector v a) c in
-        let w′ : Triple = sealInto S i s i (w .plain) (w .places) v in
-        ap (λ (o : Option ℕ). (answerNumber (reply o (result S i (sector v a) c)), unless o v w′)) (refusal-late mirror v a c (answered q))
-        ∙ settled (firstOf (late S i (sector v a) c)) (result S i (sector v a) c) v w′ ∙ x
+    unfolding sealInto lateOutcome
+    call-done q x = outcome-late mirror v a c (answered q) ∙ x
 
     pub call-refused : {f : Refusal} → d ≡ D.Refused f → outcome mirror v a c ≡ (refusalNumber f, v)
-    unfolding outcome answer after sealInto
-    call-refused {f} q =
-        let S = mirror (key k) in
-        let w = writes s S i (sector v a) c in
-        ap (λ (o : Option ℕ). (answerNumber (reply o (result S i (sector v a) c)), unless o v (sealInto S i s i (w .plain) (w .places) v))) (refusal-early mirror v a c (refusalNumber f) (answered q))
+    call-refused q = outcome-early mirror v a c (answered q)
 
   long : (p : ℕ) {d : Done} → Checks (read p) d → d ≡ D.Done → p ≡ s
   long p checks q = long-3 p s (passed v a (read p) (answered (read p) checks q) .lengths)
@@ -113,11 +97,7 @@ module _ (k : List ℕ) (s n i : ℕ) (l g r : List ℕ) where
     read-within q = let w = call-within (read (length out)) checks q in (w .0, w .1, long (length out) checks q)
 
     pub read-done : d ≡ D.Done → {x : ℕ × List ℕ} → verdictOutcome (judge (mirror (key k)) i (sector v a)) out ≡ x → readOutcome mirror v a out ≡ x
-    unfolding readOutcome
-    read-done q x =
-        ap (λ (o : Answer). (answerNumber o, output o out)) (answer-late mirror v a (read (length out)) (answered (read (length out)) checks q))
-        ∙ read-by (judge (mirror (key k)) i (sector v a)) out ∙ x
+    read-done q x = read-late mirror v a out (answered (read (length out)) checks q) ∙ x
 
     pub read-refused : {f : Refusal} → d ≡ D.Refused f → readOutcome mirror v a out ≡ (refusalNumber f, out)
-    unfolding readOutcome
-    read-refused {f} q = ap (λ (o : Answer). (answerNumber o, output o out)) (early-answer mirror v a (read (length out)) (refusalNumber f) (answered (read (length out)) checks q))
+    read-refused q = read-early mirror v a out (answered (read (length out)) checks q)

@@ -1,12 +1,9 @@
-use mathlib.Core.Path.{_∙_}
 use mathlib.Core.List.{[], _∷_}
-use native.Mathlib.Omega.{arith}
 use lib.Dec.{leb}
 use Rattle.verdict.specs.Answers.{rule}
 use Rattle.verdict.specs.Judging.{key}
-use Rattle.verdict.proofs.Rules.{check-passed, check-refused}
+use Rattle.verdict.proofs.Rules.{first-both}
 use Rattle.history.specs.Volume.{shape, volumeRules}
-use borrow.Author.Tests.{le-leb, lt-leb}
 use borrow.Author.Needs.{needs}
 use Rattle.history.proofs.check.Statement.{statement}
 use Rattle.history.proofs.check.Tie as tie
@@ -14,27 +11,17 @@ use Rattle.history.proofs.check.Tie as tie
 check-volume-requires : tie.Need-check-volume-requires
 check-volume-requires c κs = search needs
 
-enum-told : tie.Need-enum-told
-enum-told c = search needs
+check-number-requires : tie.Need-check-number-requires
+check-number-requires c κs = search needs
 
-enum-known-checked : tie.Need-enum-known-checked
-enum-known-checked c = search needs
+first-refusal-requires : tie.Need-first-refusal-requires
+first-refusal-requires c κs = search needs
 
 returns : tie.Need-returns
 returns c =
-    let a = c .before .before .before .before .before .args in
-    check-passed (rule 9 (leb (a .n) (a .i)) ∷ []) (volumeRules (key (a .key .now)) (a .s) (shape (a .s) (a .n) (a .l) (a .g) (a .r))) (c .before .before .before .check-volume .ensures) (c .before .enum-told .given .1) ∙ simp (lt-leb (a .n) (a .i) (c .if1 .taken))
-
-returns-2 : tie.Need-returns-2
-returns-2 c =
-    let a = c .before .before .before .before .before .args in
-    check-passed (rule 9 (leb (a .n) (a .i)) ∷ []) (volumeRules (key (a .key .now)) (a .s) (shape (a .s) (a .n) (a .l) (a .g) (a .r))) (c .before .before .before .check-volume .ensures) (c .before .enum-told .given .1) ∙ simp (le-leb (a .n) (a .i) (omega arith))
-
-returns-3 : tie.Need-returns-3
-returns-3 c =
-    let a = c .before .before .before .before .before .args in
-    check-refused (rule 9 (leb (a .n) (a .i)) ∷ []) (volumeRules (key (a .key .now)) (a .s) (shape (a .s) (a .n) (a .l) (a .g) (a .r))) (c .before .before .before .check-volume .ensures) (c .before .checked .given .1)
+    let a = c .before .before .before .before .args in
+    first-both (rule 9 (leb (a .n) (a .i)) ∷ []) (volumeRules (key (a .key .now)) (a .s) (shape (a .s) (a .n) (a .l) (a .g) (a .r)))
+    (c .before .before .check-volume .ensures) (c .before .check-number .ensures) (c .first-refusal .ensures)
 
 pub check-spec : {M : Type 1} → statement M
-check-spec =
-    tie.close (tie.spec check-volume-requires enum-told enum-known-checked returns returns-2 returns-3)
+check-spec = tie.close (tie.spec check-volume-requires check-number-requires first-refusal-requires returns)
