@@ -47,7 +47,7 @@
  *   - A tag goes out in one write that the medium does whole: after a cut it is the old one or the new one, never a mixture. A local or
  *     remote sector whose write had begun may then hold anything.
  *   - The images are private memory. A call stores a tag byte by byte: in a shared mapping of the medium (mmap with MAP_SHARED) a kill or a
- *     power cut between two bytes leaves a mixture, and the sector is lost.
+ *     power cut between two bytes leaves a mixture, and a second stage cut so loses the sector.
  *
  * EXAMPLE, linked by `cc -Iinclude program.c target/staticlib/libmirror.a`:
  *
@@ -96,7 +96,8 @@
 #define MIRROR_NONE_FITS 5u     /* no plaintext fits this side and this tag: try the other side, or judge if both are there */
 #define MIRROR_LOST 6u          /* no plaintext fits two places: check the key on other sectors; then blank, and write from a backup */
 #define MIRROR_CLASHING 7u      /* more than one plaintext fits two places: if a write was under way, go on with its second and third
-                                   stage; otherwise open each side, combine both, choose, blank, and write the choice */
+                                   stage (if the second refuses 10, see "After a cut in a write" below); otherwise open each side,
+                                   combine both, choose, blank, and write the choice */
 #define MIRROR_VOLUME_SHAPE 8u  /* n is not 1 to 65,536, or an image has another length than s and n ask for: check s, n and the images */
 #define MIRROR_SECTOR_NUMBER 9u /* the number is not below n: sectors count from 0 */
 #define MIRROR_STAGE_ORDER 10u  /* this stage is not due: read the sector, mend it if doubtful, and begin with the first stage */

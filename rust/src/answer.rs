@@ -166,7 +166,8 @@ impl Refusal {
                  if it is, blank the sector and write it from a backup"
             }
             Refusal::Clashing => {
-                "if a write was under way, go on with its second and third stage; \
+                "if a write was under way, go on with its second and third stage \
+                 (if the second refuses, rebuild the local sector from the remote side); \
                  otherwise open each side and combine both, choose, blank the sector and write the choice"
             }
             Refusal::VolumeShape => "check the size, the count and the three images",

@@ -107,7 +107,7 @@
 //!   write had begun may then hold anything.
 //! - **The images are private memory.** A call stores a tag byte by byte: in a
 //!   shared mapping of the medium a kill or a power cut between two bytes leaves a
-//!   mixture, and the sector is lost.
+//!   mixture, and a second stage cut so loses the sector.
 //!
 //! Between the stages of a write and after a cut in one, a read gives the old
 //! plaintext until the tag is written and the new one from then on, or it refuses

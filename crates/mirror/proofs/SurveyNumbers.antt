@@ -17,7 +17,7 @@ use Rattle.history.specs.Volume.{isShape, mirror}
 use Rattle.survey.specs.declared.Counts.{Counts}
 use Rattle.survey.specs.Survey.{tally, health, countsOf, written, Report, refused, verdictAt, surveyed, surveyRefusal, surveyOutcome, ByFitting}
 use Rattle.survey.proofs.SurveyFacts.{survey-facts}
-use Rattle.mirror.specs.Survey.{numbers, surveyResult, SurveyNumbers}
+use Rattle.mirror.specs.Survey.{surveyResult, SurveyNumbers}
 
 -- no refusal of a survey has the number 0
 not-zero : (a b c d : Bool) → firstOf (rule 1 a ∷ rule 2 b ∷ rule 8 c ∷ rule 11 d ∷ []) ≡ some 0 → ⊥
@@ -29,7 +29,7 @@ not-zero false false false false e = let z : _≡_ {A = ℕ} 0 1 = cc in omega a
 
 by-fitting : (v : Triple) → AnyBytes v → (k : Key) (s n : ℕ) (list before five after : List ℕ)
     → surveyResult (surveyOutcome v k s n list) before ≡ (0, (five, after))
-    → (c : Counts) × (five ≡ numbers c) × ByFitting k s n v list c after
+    → (c : Counts) × (five ≡ c .whole ∷ c .doubtful ∷ c .clashing ∷ c .lost ∷ c .health ∷ []) × ByFitting k s n v list c after
 by-fitting v bytes k s n list before five after e = go (surveyRefusal v k s n (length list)) refl
   where
     w : ℕ → Verdict
@@ -38,7 +38,7 @@ by-fitting v bytes k s n list before five after e = go (surveyRefusal v k s n (l
     c : Counts
     c = countsOf w n (health (tally isWhole w n) n)
 
-    go : (o : Option ℕ) → surveyRefusal v k s n (length list) ≡ o → (c : Counts) × (five ≡ numbers c) × ByFitting k s n v list c after
+    go : (o : Option ℕ) → surveyRefusal v k s n (length list) ≡ o → (c : Counts) × (five ≡ c .whole ∷ c .doubtful ∷ c .clashing ∷ c .lost ∷ c .health ∷ []) × ByFitting k s n v list c after
     go none d =
         let a : surveyOutcome v k s n list ≡ surveyed w n list = survey-facts .answers v k s n list d in
         let r : surveyResult (surveyed w n list) before ≡ (0, (five, after)) = ap (λ (x : Report × List ℕ). surveyResult x before) (sym a) ∙ e in (
@@ -51,4 +51,8 @@ by-fitting v bytes k s n list before five after e = go (surveyRefusal v k s n (l
         absurd (not-zero (not (isKey k)) (not (isSize s)) (not (isShape s n v)) (ltb (length list) n) (d ∙ ap some (ap (λ (x : ℕ × (List ℕ × List ℕ)). x .0) r)))
 
 pub survey-numbers : SurveyNumbers
-survey-numbers = record { by-fitting = by-fitting }
+survey-numbers = record {
+  refuses = λ v k s n list before m e. ap (λ (x : Report × List ℕ). surveyResult x before) (survey-facts .refuses v k s n list m e);
+  answers = λ v k s n list before e. ap (λ (x : Report × List ℕ). surveyResult x before .0) (survey-facts .answers v k s n list e);
+  by-fitting = by-fitting;
+}

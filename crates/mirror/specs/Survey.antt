@@ -2,11 +2,13 @@
 -- proved of them, as `survey-numbers`.
 use mathlib.Core.Path.{_≡_}
 use mathlib.Core.List.{List, [], _∷_}
+use mathlib.Core.Option.{none, some}
 use Prim.Native.Nat.{ℕ}
+use lib.ListN.{length}
 use Rattle.mode.specs.Sealing.{Triple, Key}
 use Rattle.history.specs.HistoryFrom.{AnyBytes}
 use Rattle.survey.specs.declared.Counts.{Counts}
-use Rattle.survey.specs.Survey.{Report, refused, counted, surveyOutcome, ByFitting}
+use Rattle.survey.specs.Survey.{Report, refused, counted, surveyRefusal, surveyOutcome, ByFitting}
 
 abbrev pub numbers : Counts → List ℕ
 numbers c = c .whole ∷ c .doubtful ∷ c .clashing ∷ c .lost ∷ c .health ∷ []
@@ -16,8 +18,14 @@ abbrev pub surveyResult : Report × List ℕ → List ℕ → ℕ × (List ℕ �
 surveyResult (refused k, list) before = (k, (before, list))
 surveyResult (counted c, list) before = (0, (numbers c, list))
 
--- where the number is 0, the five are those of the sectors by fitting, and so is the list
 pub record SurveyNumbers : Type 0 where
+  -- a refused survey gives its number, and leaves the five and the list
+  pub refuses : (v : Triple) (k : Key) (s n : ℕ) (list before : List ℕ) (m : ℕ) → surveyRefusal v k s n (length list) ≡ some m
+      → surveyResult (surveyOutcome v k s n list) before ≡ (m, (before, list))
+  -- any other gives 0,
+  pub answers : (v : Triple) (k : Key) (s n : ℕ) (list before : List ℕ) → surveyRefusal v k s n (length list) ≡ none
+      → surveyResult (surveyOutcome v k s n list) before .0 ≡ 0
+  -- and where the number is 0, the five are those of the sectors by fitting, in this order, and so is the list
   pub by-fitting : (v : Triple) → AnyBytes v → (k : Key) (s n : ℕ) (list before five after : List ℕ)
       → surveyResult (surveyOutcome v k s n list) before ≡ (0, (five, after))
-      → (c : Counts) × (five ≡ numbers c) × ByFitting k s n v list c after
+      → (c : Counts) × (five ≡ c .whole ∷ c .doubtful ∷ c .clashing ∷ c .lost ∷ c .health ∷ []) × ByFitting k s n v list c after

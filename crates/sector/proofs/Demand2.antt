@@ -20,7 +20,7 @@ use Rattle.verdict.proofs.JudgeExact.{FitsBut, but-local, but-tag, but-remote, 
 use Rattle.verdict.proofs.Numbers.{outcome-one}
 use Rattle.verdict.proofs.OpenExact.{open-plain, opened-none, open-exact}
 use Rattle.sector.specs.Calls.{sizeRules, sideRules, openOutcome, sealCall, judgeCall, openCall, rebuildCall, combineCall}
-use Rattle.sector.specs.Demand2.{sideNumber, SealsTo, Judges, Opens, Rebuilds, Demand2-whole}
+use Rattle.sector.specs.Demand2.{sideNumber, SealsTo, Judges, Opens, Rebuilds, Demand2-whole, SizeBounds}
 use Rattle.sector.proofs.Opening.{outcome-some, outcome-none}
 use Rattle.sector.proofs.Public.{settle-none, seal-passes, judge-passes, combine-passes}
 
@@ -221,3 +221,7 @@ demand-2 k s ek es = record {
   opening = open-exact s (scheme k) (lawful k s ek es);
   one-for-two = one-for-two k s ek es;
 }
+
+pub size-bounds : SizeBounds
+unfolding isSize
+size-bounds = record { size-15 = refl; size-16 = refl; size-4096 = refl; size-4112 = refl }

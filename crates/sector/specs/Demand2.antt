@@ -2,7 +2,7 @@
 -- 64-bit address, and all bytes.
 use mathlib.Core.Path.{_≡_}
 use mathlib.Core.Logic.{_↔_}
-use mathlib.Core.Bool.{true}
+use mathlib.Core.Bool.{true, false}
 use mathlib.Core.List.{List}
 use Prim.Native.Nat.{ℕ}
 use lib.ListN.{length}
@@ -69,3 +69,10 @@ pub record Demand2 (k : Key) (s : ℕ) : Type 0 where
 -- under every key and size that a call accepts
 abbrev pub Demand2-whole : Type 0
 Demand2-whole = (k : Key) (s : ℕ) → isKey k ≡ true → isSize s ≡ true → Demand2 k s
+
+-- document 01's examples at the bounds: sizes 15 and 4,112 are refused, 16 and 4,096 pass
+pub record SizeBounds : Type 0 where
+  pub size-15 : isSize 15 ≡ false
+  pub size-16 : isSize 16 ≡ true
+  pub size-4096 : isSize 4096 ≡ true
+  pub size-4112 : isSize 4112 ≡ false

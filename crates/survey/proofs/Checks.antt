@@ -1,11 +1,13 @@
 -- What a survey refuses, and what its checks show. Assumes nothing.
-use mathlib.Core.Path.{_≡_, ap, _∙_}
+use mathlib.Core.Path.{_≡_, refl, ap, _∙_}
+use mathlib.Core.Bool.{true}
 use mathlib.Core.List.{List, [], _∷_}
 use mathlib.Core.Option.{Option, none, some}
 use Prim.Native.Nat.{ℕ, _<_, _≤_}
 use lib.Dec.{ltb}
 use lib.ListN.{length}
 use borrow.Author.Tests.{ltb-false, lt-ltb, le-ltb}
+use Rattle.mode.specs.Scheme.{isKey, isSize}
 use Rattle.mode.specs.Sealing.{Triple, Key}
 use Rattle.verdict.specs.declared.Done.{Done}
 use Rattle.verdict.specs.declared.Done.the-variants as D
@@ -21,7 +23,12 @@ use Rattle.survey.specs.Survey.{Report, refused, surveyRules, verdictAt,
 
 -- ---- the refusals
 
--- what passing them shows
+-- what passes them
+pub accepts : (v : Triple) (k : Key) (s n room : ℕ) → isKey k ≡ true → isSize s ≡ true → isShape s n v ≡ true → n ≤ room
+    → firstOf (surveyRules k s n (isShape s n v) room) ≡ none
+accepts v k s n room ek es eh l = rw (ek, es, eh, le-ltb room n l) refl
+
+-- and what passing them shows
 pub tests : (v : Triple) (k : Key) (s n room : ℕ) → firstOf (surveyRules k s n (isShape s n v) room) ≡ none → Common v k s n × (n ≤ room)
 tests v k s n room e =
     let every : List Rule = volumeRules k s (isShape s n v) in

@@ -9,7 +9,7 @@ use Prim.Native.Nat.{ℕ, zero, suc, _+_, _*_, _/_, _<_, _≤_}
 use lib.Dec.{ltb}
 use lib.ListN.{length, getD, drop}
 use Rattle.mode.specs.Sealing.{Triple, Key}
-use Rattle.mode.specs.Scheme.{Place, Scheme}
+use Rattle.mode.specs.Scheme.{Place, isKey, isSize, Scheme}
 use Rattle.verdict.specs.Answers.{Rule, rule, firstOf, settleBy, refusalNumber}
 use Rattle.verdict.specs.Verdict.{Verdict, whole, doubtful, lost, clashing, Means, judge}
 use Rattle.survey.specs.declared.Counts.{Counts}
@@ -143,6 +143,9 @@ isKept (kept P d) = true
 pub record SurveyFacts : Type 1 where
   -- there is one such list, so there is one such count
   pub lists-once : (P : ℕ → Type 0) (n : ℕ) (l m : List ℕ) → Lists P n l → Lists P n m → l ≡ m
+  -- with a key, a size, a shape and a list that are right a survey is not refused
+  pub accepts : (v : Triple) (k : Key) (s n room : ℕ) → isKey k ≡ true → isSize s ≡ true → isShape s n v ≡ true → n ≤ room
+      → surveyRefusal v k s n room ≡ none
   -- a refused survey leaves the list; any other answers with the counts of its verdicts
   pub refuses : (v : Triple) (k : Key) (s n : ℕ) (list : List ℕ) (m : ℕ) → surveyRefusal v k s n (length list) ≡ some m
       → surveyOutcome v k s n list ≡ (refused m, list)
