@@ -11,3 +11,4 @@ pub mod Outcomes
 pub mod Meaning
 pub mod Cuts
 pub mod Witness
+pub mod Rules

@@ -274,7 +274,7 @@ module _ (S : Scheme) (i : ℕ) (t : Triple) where
 
 -- ---- damage
 
-is-place : (q p : Place) → isPlace q p ≡ true → q ≡ p
+pub is-place : (q p : Place) → isPlace q p ≡ true → q ≡ p
 is-place local local e = refl
 is-place local tag e = false-true e
 is-place local remote e = false-true e

@@ -7,3 +7,4 @@ pub mod HistoryFrom
 pub mod Meaning
 pub mod Cuts
 pub mod Witness
+pub mod Rules
