@@ -3,7 +3,7 @@ use mathlib.Core.Path.{_≡_, ap, _∙_}
 use Prim.Native.Nat.{ℕ, _+_, _/_}
 use native.Mathlib.Omega.{arith}
 use lib.Dec.{lit≤}
-use lib.ListN.{length, length-drop}
+use lib.ListN.{length, length-drop, length-take}
 use Rattle.aes.specs.Aes.{expand, roundsOf}
 use Rattle.aes.proofs.Facts.{aes-facts}
 use Rattle.mode.specs.Sealing.{Key, cipherKey, roundKeys}
@@ -12,7 +12,7 @@ use Rattle.mode.specs.KeyFacts.{KeyFacts}
 module _ (k : Key) (size : length (k .bytes) ≡ 32) where
   sixteen : length (cipherKey k) ≡ 16
   unfolding cipherKey
-  sixteen = simp length-drop (omega arith)
+  sixteen = simp (length-drop, length-take) (omega arith)
 
   aes-128 : roundKeys k ≡ expand 4 10 (cipherKey k)
   unfolding roundKeys

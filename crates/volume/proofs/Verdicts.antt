@@ -1,51 +1,24 @@
 -- The verdict behind the code's answer of judging. Assumes nothing.
-use mathlib.Core.Path.{_≡_, refl, ap, ap₂, _∙_}
+use mathlib.Core.Path.{_≡_, refl, ap, _∙_}
 use mathlib.Core.Bool.{false}
 use mathlib.Core.List.{List}
 use mathlib.Core.Option.{some}
 use Prim.Native.Nat.{ℕ}
 use native.Mathlib.Omega.{arith}
-use Rattle.mode.specs.Scheme.{Place, local, tag, remote}
 use Rattle.verdict.specs.declared.Judged.{Judged}
 use Rattle.verdict.specs.declared.Judged.the-variants as J
 use Rattle.verdict.specs.declared.Place as D
 use Rattle.verdict.specs.declared.Refusal.{Refusal}
-use Rattle.verdict.specs.Answers.{doubtNumber, refusalNumber, placeNamed, judgedNumber}
+use Rattle.verdict.specs.Answers.{refusalNumber, placeNamed, judgedNumber}
 use Rattle.verdict.specs.Judging.{verdictRefusal, verdictOutcome}
 use Rattle.verdict.specs.Verdict.{Verdict, whole, doubtful, lost, clashing}
-use Rattle.verdict.proofs.Numbers.{refusal-range, doubt-least}
+use Rattle.verdict.proofs.Numbers.{refusal-range, doubt-least, outcome-one}
 use Rattle.history.specs.Answers.{isWhole}
 
 abbrev number : ℕ × List ℕ → ℕ
 number x = x .0
 
-abbrev bytes : ℕ × List ℕ → List ℕ
-bytes x = x .1
-
-doubts-same : (p q : Place) → doubtNumber p ≡ doubtNumber q → p ≡ q
-doubts-same local local e = refl
-doubts-same local tag e = absurd (omega arith)
-doubts-same local remote e = absurd (omega arith)
-doubts-same tag local e = absurd (omega arith)
-doubts-same tag tag e = refl
-doubts-same tag remote e = absurd (omega arith)
-doubts-same remote local e = absurd (omega arith)
-doubts-same remote tag e = absurd (omega arith)
-doubts-same remote remote e = refl
-
 module _ (out o : List ℕ) where
-  by-whole : (v : Verdict) → verdictOutcome v out ≡ (0, o) → v ≡ whole o
-  by-whole (whole P) e = ap whole (ap bytes e)
-  by-whole (doubtful p P) e = absurd (omega (arith, ap number e, doubt-least p))
-  by-whole lost e = absurd (omega (arith, ap number e))
-  by-whole clashing e = absurd (omega (arith, ap number e))
-
-  by-doubt : (v : Verdict) (p : Place) → verdictOutcome v out ≡ (doubtNumber p, o) → v ≡ doubtful p o
-  by-doubt (whole P) p e = absurd (omega (arith, ap number e, doubt-least p))
-  by-doubt (doubtful q P) p e = ap₂ doubtful (doubts-same q p (ap number e)) (ap bytes e)
-  by-doubt lost p e = absurd (omega (arith, ap number e, doubt-least p))
-  by-doubt clashing p e = absurd (omega (arith, ap number e, doubt-least p))
-
   by-refusal : (v : Verdict) (f : Refusal) → verdictOutcome v out ≡ (refusalNumber f, o) → verdictRefusal v ≡ some (refusalNumber f)
   by-refusal (whole P) f e = absurd (omega (arith, ap number e, refusal-range f))
   by-refusal (doubtful p P) f e = absurd (omega (arith, ap number e, refusal-range f, doubt-least p))
@@ -57,10 +30,10 @@ module _ (v : Verdict) (out : List ℕ) {o : List ℕ} (j : Judged) (e : verdict
   found q = e ∙ ap (λ (k : Judged). (judgedNumber k, o)) q
 
   pub is-whole : j ≡ J.Whole → v ≡ whole o
-  is-whole q = by-whole out o v (found q)
+  is-whole q = outcome-one v (whole o) out (found q)
 
   pub is-doubtful : {d : D.Place} → j ≡ J.Doubtful d → v ≡ doubtful (placeNamed d) o
-  is-doubtful {d} q = by-doubt out o v (placeNamed d) (found q)
+  is-doubtful {d} q = outcome-one v (doubtful (placeNamed d) o) out (found q)
 
   pub is-refused : {f : Refusal} → j ≡ J.Refused f → verdictRefusal v ≡ some (refusalNumber f)
   is-refused {f} q = by-refusal out o v f (found q)
