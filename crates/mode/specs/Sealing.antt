@@ -14,6 +14,9 @@ use Rattle.hash.specs.Brw.{brw}
 pub record Key : Type 0 where
   pub bytes : List ℕ
 
+abbrev pub keyFrom : List ℕ → Key
+keyFrom b = record { bytes = b }
+
 -- the hash key h: the first 16 bytes
 unfoldable pub hashKey : Key → ℕ
 hashKey k = fromBytes (take 16 (k .bytes))
@@ -72,6 +75,9 @@ pub record Triple : Type 0 where
   pub local : List ℕ
   pub tag : List ℕ
   pub remote : List ℕ
+
+abbrev pub triple : List ℕ → List ℕ → List ℕ → Triple
+triple l g r = record { local = l; tag = g; remote = r }
 
 -- what P seals to, from its tag g
 unfoldable pub sides : (ℕ → ℕ) → ℕ → List ℕ → Triple

@@ -1,0 +1,128 @@
+-- Refusals on arguments (document 01): each rule once, and the rules of each call in its order. Assumes nothing: these are definitions.
+use mathlib.Core.Bool.{Bool, true, not, _&&_, _||_, cond}
+use mathlib.Core.List.{List, [], _∷_, _++_}
+use mathlib.Core.Option.{Option, none, some}
+use Prim.Native.Nat.{ℕ, _*_}
+use lib.Dec.{eqb, leb, ltb}
+use lib.ListN.{length}
+use Rattle.mode.specs.Sealing.{Key, Triple}
+use Rattle.mode.specs.Scheme.{isKey, isSize}
+
+-- ---- rules in order
+
+-- a refusal: its number and its condition
+pub record Rule : Type 0 where
+  pub number : ℕ
+  pub condition : Bool
+
+abbrev pub rule : ℕ → Bool → Rule
+rule k b = record { number = k; condition = b }
+
+-- the number of the first refusal whose condition holds
+abbrev pub firstOf : List Rule → Option ℕ
+firstOf [] = none
+firstOf (r ∷ rs) = cond (r .condition) (some (r .number)) (firstOf rs)
+
+-- of two refusals in order, the first that there is
+abbrev pub firstSome : Option ℕ → Option ℕ → Option ℕ
+firstSome none o = o
+firstSome (some n) o = some n
+
+-- the list with one refusal that is already decided, or none
+abbrev pub rulesOf : Option ℕ → List Rule
+rulesOf none = []
+rulesOf (some n) = rule n true ∷ []
+
+-- a call's answer and lent bytes: a refusal leaves the bytes as they were; `refuse` makes an answer of its number
+abbrev pub settleBy : {R A : Type 0} → (ℕ → R) → Option ℕ → R × A → A → R × A
+settleBy refuse none after before = after
+settleBy refuse (some n) after before = (refuse n, before)
+
+-- where the answer is a number
+abbrev pub settle : {A : Type 0} → Option ℕ → ℕ × A → A → ℕ × A
+settle o after before = settleBy (λ n. n) o after before
+
+-- ---- what a call on a volume takes
+
+-- a volume's key, the size s and the count n
+pub record Volume : Type 0 where
+  pub key : Key
+  pub size : ℕ
+  pub count : ℕ
+
+abbrev pub volume : Key → ℕ → ℕ → Volume
+volume k s n = record { key = k; size = s; count = n }
+
+-- these, and a sector's number
+pub record Args : Type 0 where
+  pub volume : Volume
+  pub number : ℕ
+
+abbrev pub args : Key → ℕ → ℕ → ℕ → Args
+args k s n i = record { volume = volume k s n; number = i }
+
+-- n from 1 to 65,536, two images of n times s bytes, and tags of n times 16
+unfoldable pub shape : ℕ → ℕ → ℕ → ℕ → ℕ → Bool
+shape s n l g r = leb 1 n && (leb n 65536 && (eqb l (n * s) && (eqb r (n * s) && eqb g (n * 16))))
+
+unfoldable pub isShape : ℕ → ℕ → Triple → Bool
+unfolding shape
+isShape s n v = shape s n (length (v .local)) (length (v .tag)) (length (v .remote))
+
+-- ---- each rule
+
+-- 1: the key
+abbrev pub keyRules : Key → List Rule
+keyRules k = rule 1 (not (isKey k)) ∷ []
+
+-- 2: the size of a sector
+abbrev pub sizeRules : ℕ → List Rule
+sizeRules s = rule 2 (not (isSize s)) ∷ []
+
+-- 3: a length that is not the one due, the size of the sector or 16 for a tag
+abbrev pub lengthRules : ℕ → ℕ → List Rule
+lengthRules l due = rule 3 (not (eqb l due)) ∷ []
+
+-- 4: the number of a side, 0 for local and 1 for remote
+abbrev pub sideRules : ℕ → List Rule
+sideRules d = rule 4 (not (eqb d 0 || eqb d 1)) ∷ []
+
+-- 8: `right` says whether n and the images have the right shape
+abbrev pub shapeRules : Bool → List Rule
+shapeRules right = rule 8 (not right) ∷ []
+
+-- 9: a sector's number i among n
+abbrev pub numberRules : ℕ → ℕ → List Rule
+numberRules n i = rule 9 (leb n i) ∷ []
+
+-- 11: a list of `room` numbers for n sectors
+abbrev pub listRules : ℕ → ℕ → List Rule
+listRules n room = rule 11 (ltb room n) ∷ []
+
+-- ---- the calls on a sector
+
+-- combine: the size s, and two lengths that must equal it
+abbrev pub sidesRules : ℕ → ℕ → ℕ → List Rule
+sidesRules s x y = sizeRules s ++ (lengthRules x s ++ lengthRules y s)
+
+-- seal and judge: these, and a tag's length
+abbrev pub partsRules : Key → ℕ → ℕ → ℕ → ℕ → List Rule
+partsRules k s x y g = keyRules k ++ (sidesRules s x y ++ lengthRules g 16)
+
+-- open and rebuild: the sector's size s, an output, a tag and the number of a side
+abbrev pub openRules : Key → ℕ → ℕ → ℕ → ℕ → List Rule
+openRules k s out g d = keyRules k ++ (sizeRules s ++ (lengthRules out s ++ (lengthRules g 16 ++ sideRules d)))
+
+-- ---- the calls on a volume
+
+-- of every call
+abbrev pub volumeRules : Volume → Bool → List Rule
+volumeRules vol right = keyRules (vol .key) ++ (sizeRules (vol .size) ++ shapeRules right)
+
+-- of a call on one sector
+abbrev pub sectorRules : Bool → Args → List Rule
+sectorRules right a = volumeRules (a .volume) right ++ numberRules (a .volume .count) (a .number)
+
+-- of a survey with a list of `room` numbers
+abbrev pub surveyRules : Volume → Bool → ℕ → List Rule
+surveyRules vol right room = volumeRules vol right ++ listRules (vol .count) room
