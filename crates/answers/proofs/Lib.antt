@@ -1,3 +1,3 @@
 pub mod Rules
 pub mod Shapes
-
+pub mod Passing

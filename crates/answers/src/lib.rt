@@ -117,7 +117,7 @@ fn check_key(key: &[u8]) -> Done
 }
 
 // Whether s is the size of a sector.
-fn is_size(s: usize) -> bool
+pub fn is_size(s: usize) -> bool
     ensures { λ r. ⌜ r ≡ isSize s ⌝ }
 {
     if s < 16 {
@@ -270,15 +270,7 @@ pub fn check_volume(key: &[u8], s: usize, n: usize, l: usize, g: usize, r: usize
 }
 
 // And then 9, of a call on sector i.
-pub fn check_sector(
-    key: &[u8],
-    s: usize,
-    n: usize,
-    i: usize,
-    l: usize,
-    g: usize,
-    r: usize,
-) -> Done
+pub fn check_sector(key: &[u8], s: usize, n: usize, i: usize, l: usize, g: usize, r: usize) -> Done
     ensures { λ d. ⌜ firstOf (sectorRules (shape s n l g r) (args (keyFrom (now (key .entry))) s n i)) ≡ doneOption d ⌝ }
 {
     let images = check_volume(key, s, n, l, g, r);

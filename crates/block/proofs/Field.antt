@@ -1,8 +1,7 @@
 -- Laws of the field. Assumes nothing.
 use mathlib.Core.Path.{_≡_, refl, sym, ap, ap₂, _∙_}
 use Prim.Native.Nat.{ℕ, zero, suc, _+_, _*_, _/_, _%_, _^_, _≤_, _<_}
-use native.Mathlib.Nat.{zero-add, suc-add, div-one, mod-lt, mod-one, mod-eq-of-lt, div-eq-of-lt, add-zero, le-of-suc-le, lt-of-lt-of-le}
-use native.Mathlib.Nat.{le-of-suc-le-suc, not-suc-le-zero, mul-one, mul-mod-left, pow-suc}
+use native.Mathlib.Nat.{zero-add, suc-add, div-one, mod-lt, mod-one, mod-eq-of-lt, div-eq-of-lt, add-zero, le-of-suc-le, lt-of-lt-of-le, le-of-suc-le-suc, not-suc-le-zero, mul-one, mul-mod-left, pow-suc}
 use native.Mathlib.Nat as N
 use native.Mathlib.Numerals.{add-one, one-add}
 use native.Mathlib.Omega.{arith}

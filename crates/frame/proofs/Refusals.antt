@@ -12,8 +12,8 @@ use lib.Seq.{length-take-le}
 use borrow.Author.Tests.{eqb-true, eqb-false, leb-true, leb-false}
 use Rattle.block.proofs.Lists.{and-left, and-right}
 use Rattle.mode.specs.Scheme.{isSize}
-use Rattle.verdict.specs.Answers.{Rule, rule, firstOf}
-use Rattle.verdict.proofs.Rules.{first-none, first-some, none-left, none-right}
+use Rattle.answers.specs.Rules.{Rule, rule, firstOf}
+use Rattle.answers.proofs.Rules.{first-none, first-some, none-left, none-right}
 use Rattle.text.specs.Digits.{allDigits, decode}
 use Rattle.frame.specs.Frame.{kind, beside, together, half, called, kindRules, sectorRules, lengthRules, Answer, answered, unlessRefused, frameAnswer, lineAnswer, printed, shown, printLine}
 use Rattle.frame.specs.Inner.{Sectors}

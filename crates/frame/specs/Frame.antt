@@ -7,9 +7,9 @@ use lib.Dec.{eqb, leb}
 use lib.ListN.{length, take, drop, getD, replicate}
 use Rattle.block.specs.Bytes.{fromBytes}
 use Rattle.mode.specs.Scheme.{local, tag, remote, isSize}
-use Rattle.verdict.specs.Answers.{Rule, rule, firstOf, doubtNumber}
-use Rattle.verdict.specs.Judging.{triple}
-use Rattle.verdict.specs.Judging as C
+use Rattle.mode.specs.Sealing.{triple, keyFrom}
+use Rattle.answers.specs.Answers.{doubtNumber}
+use Rattle.answers.specs.Rules.{Rule, rule, firstOf}
 use Rattle.sector.specs.Calls.{judgeCall, combineCall}
 use Rattle.text.specs.Digits.{allDigits, decode}
 
@@ -48,7 +48,7 @@ field a n f = take n (drop a f)
 unfoldable pub judged : List ℕ → List ℕ → ℕ × List ℕ
 judged f out =
     let s : ℕ = length out in
-    judgeCall (C.key (field 1 32 f)) (fromBytes (field 33 8 f)) (triple (field 41 s f) (field (41 + s) 16 f) (field (57 + s) s f)) out
+    judgeCall (keyFrom (field 1 32 f)) (fromBytes (field 33 8 f)) (triple (field 41 s f) (field (41 + s) 16 f) (field (57 + s) s f)) out
 
 unfoldable pub combined : List ℕ → List ℕ → ℕ × List ℕ
 combined f out = let s : ℕ = length out in combineCall (field 1 s f) (field (1 + s) s f) out

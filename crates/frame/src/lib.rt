@@ -1,13 +1,14 @@
 // The program `frames` between its reads and its writes: what is printed for a line, and what a turn does with what a read gave.
-use verdict::Done;
-use verdict::Judged;
-use verdict::Refusal;
+use answers::Done;
+use answers::Judged;
+use answers::Refusal;
 ghost use mathlib.Core.Path.{_≡_};
 ghost use mathlib.Core.List.{[], _++_};
 ghost use mathlib.Core.Option.{none};
 ghost use Prim.Native.Nat.{_+_, _*_, _-_, _≤_, _<_, min};
 ghost use lib.ListN.{length, take, drop, replicate};
-ghost use Rattle.verdict.specs.Answers.{firstOf, refusalNumber, judgedNumber, doneOption};
+ghost use Rattle.answers.specs.Answers.{refusalNumber, judgedNumber, doneOption};
+ghost use Rattle.answers.specs.Rules.{firstOf};
 ghost use Rattle.frame.specs.Frame.{together, judged, combined, called, lengthRules, kindRules, sectorRules, answered, frameAnswer, printed, shown, printLine};
 ghost use Rattle.frame.specs.Frame as F;
 ghost use Rattle.frame.specs.Lines.{held, fed, finished};
@@ -55,7 +56,7 @@ fn refuse(f: Refusal, out: &mut [u8]) -> usize
     requires { ⌜ 3 ≤ length (now out) ⌝ }
     ensures { λ r. ⌜ Prints (printed (refusalNumber f) []) (now (out .entry)) (now (out .exit)) r 3 ⌝ }
 {
-    show(verdict::refusal_number(f), b"", out)
+    show(answers::refusal_number(f), b"", out)
 }
 
 // ---- refusals
@@ -99,7 +100,7 @@ fn check_sectors(n: usize) -> Done
     ensures { λ r. ⌜ firstOf (sectorRules n) ≡ doneOption r ⌝ }
 {
     if n % 2 == 0 {
-        if verdict::is_size(n / 2) {
+        if answers::is_size(n / 2) {
             return Done::Done;
         }
         return Done::Refused(Refusal::SectorSize);
@@ -187,7 +188,7 @@ fn print_answer(frame: &[u8], plain: &mut [u8], out: &mut [u8]) -> usize
 {
     let answer = call_frame(frame, plain);
     let n = plaintext_length(answer, plain.len());
-    show(verdict::judged_number(answer), &plain[..n], out)
+    show(answers::judged_number(answer), &plain[..n], out)
 }
 
 // Makes the room for the plaintext.

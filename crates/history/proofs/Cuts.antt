@@ -16,7 +16,8 @@ use Rattle.verdict.specs.Verdict.{fits}
 use Rattle.verdict.proofs.JudgeExact.{same-place, fits-Fits, Fits-fits}
 use Rattle.history.specs.Machine.{Told, toldFinished, toldCut}
 use Rattle.history.proofs.Options.{none-some}
-use Rattle.history.specs.Volume.{store, sectorOf, Args, Call, writes, sector, sealing, refusal, mirror}
+use Rattle.answers.specs.Rules.{Args, Volume}
+use Rattle.history.specs.Volume.{store, sectorOf, Call, writes, sector, sealing, refusal, mirror}
 use Rattle.history.specs.Power.{Cut, cut, CutOf, torn, Images, Lent, leavesCall}
 use Rattle.history.specs.HistoryFrom.{AnyBytes}
 use Rattle.history.specs.Cuts.{CutLeaves, CutExact}
@@ -80,23 +81,23 @@ images-same s n v w I J e =
 module _ (v : Triple) (b : AnyBytes v) (a : Args) (c : Call) (lent : Lent c) (e : refusal mirror v a c ≡ none) where
   -- the places that it writes, what it writes there, and what it found there
   abbrev places : List Place
-  places = writes (a .size) (sealing mirror a) (a .number) (sector v a) c .places
+  places = writes (a .volume .size) (sealing mirror a) (a .number) (sector v a) c .places
 
   abbrev written : Triple
-  written = sealing mirror a .sealed (a .number) (writes (a .size) (sealing mirror a) (a .number) (sector v a) c .plain)
+  written = sealing mirror a .sealed (a .number) (writes (a .volume .size) (sealing mirror a) (a .number) (sector v a) c .plain)
 
-  before : Images (a .size) (a .count) v
+  before : Images (a .volume .size) (a .volume .count) v
   before = accepted-images mirror v a c b e
 
-  here : Sector (a .size) (sector v a)
-  here = sector-images (a .size) (a .count) (a .number) (accepted-passed mirror v a c e .number) v before
+  here : Sector (a .volume .size) (sector v a)
+  here = sector-images (a .volume .size) (a .volume .count) (a .number) (accepted-passed mirror v a c e .number) v before
 
-  after-cut : (k : Cut) → CutOf (a .size) (cut k) → Left mirror v a c (cut k) (leavesCall mirror v a c (cut k))
+  after-cut : (k : Cut) → CutOf (a .volume .size) (cut k) → Left mirror v a c (cut k) (leavesCall mirror v a c (cut k))
   after-cut k z = left mirror mirror-sound v b a c (cut k) lent z e
 
   -- ---- the theorem's cuts keep the rule
 
-  module _ (k : Cut) (z : CutOf (a .size) (cut k)) where
+  module _ (k : Cut) (z : CutOf (a .volume .size) (cut k)) where
     begun : Place → Bool
     begun p = decided (member p places)
 
@@ -130,8 +131,8 @@ module _ (v : Triple) (b : AnyBytes v) (a : Args) (c : Call) (lent : Lent c) (e 
     keeps-rule = record {
       begun = begun;
       writes-begun = begun-in;
-      any-local = λ h. subst (Plain (a .size)) (sym (mine-in local (begun-in local h))) (z .0);
-      any-remote = λ h. subst (Plain (a .size)) (sym (mine-in remote (begun-in remote h))) (z .1);
+      any-local = λ h. subst (Plain (a .volume .size)) (sym (mine-in local (begun-in local h))) (z .0);
+      any-remote = λ h. subst (Plain (a .volume .size)) (sym (mine-in remote (begun-in remote h))) (z .1);
       old-or-new = λ h. tag-cases (k .newTag) (written .tag) (sector v a .tag) _ (mine-in tag (begun-in tag h));
       not-begun = λ p h. mine-out p (begun-out p h);
       others = after-cut k z .others;
@@ -141,12 +142,12 @@ module _ (v : Triple) (b : AnyBytes v) (a : Args) (c : Call) (lent : Lent c) (e 
   -- ---- what keeps the rule is one of the theorem's cuts
 
   module _ (w : Triple) (r : CutLeaves v a c w) where
-    any-side : (p : Place) → wide (a .size) p ≡ a .size → (r .begun p ≡ true → Plain (a .size) (on (sector w a) p)) → Plain (a .size) (on (sector w a) p)
+    any-side : (p : Place) → wide (a .volume .size) p ≡ a .volume .size → (r .begun p ≡ true → Plain (a .volume .size) (on (sector w a) p)) → Plain (a .volume .size) (on (sector w a) p)
     any-side p d h = go (r .begun p) refl
       where
-        go : (x : Bool) → r .begun p ≡ x → Plain (a .size) (on (sector w a) p)
+        go : (x : Bool) → r .begun p ≡ x → Plain (a .volume .size) (on (sector w a) p)
         go true y = h y
-        go false y = subst (Plain (a .size)) (sym (r .not-begun p y)) (subst (λ (m : ℕ). Plain m (on (sector v a) p)) d (here .places p))
+        go false y = subst (Plain (a .volume .size)) (sym (r .not-begun p y)) (subst (λ (m : ℕ). Plain m (on (sector v a) p)) d (here .places p))
 
     tag-is : (x : Bool) × (sector w a .tag ≡ cond x (written .tag) (sector v a .tag))
     tag-is = go (r .begun tag) refl
@@ -158,7 +159,7 @@ module _ (v : Triple) (b : AnyBytes v) (a : Args) (c : Call) (lent : Lent c) (e 
     the-cut : Cut
     the-cut = record { inLocal = sector w a .local; inRemote = sector w a .remote; newTag = tag-is .0 }
 
-    is-cut : CutOf (a .size) (cut the-cut)
+    is-cut : CutOf (a .volume .size) (cut the-cut)
     unfolding the-cut
     is-cut = (any-side local refl (r .any-local), any-side remote refl (r .any-remote))
 
@@ -179,20 +180,20 @@ module _ (v : Triple) (b : AnyBytes v) (a : Args) (c : Call) (lent : Lent c) (e 
             as-before true y = absurd (n (r .writes-begun p y))
             as-before false y = r .not-begun p y
 
-    all-sectors : (j : ℕ) (p : Place) → on (sectorOf (a .size) j (leavesCall mirror v a c (cut the-cut))) p ≡ on (sectorOf (a .size) j w) p
+    all-sectors : (j : ℕ) (p : Place) → on (sectorOf (a .volume .size) j (leavesCall mirror v a c (cut the-cut))) p ≡ on (sectorOf (a .volume .size) j w) p
     all-sectors j p = go (ℕ-discrete j (a .number))
       where
-        go : Dec (j ≡ a .number) → on (sectorOf (a .size) j (leavesCall mirror v a c (cut the-cut))) p ≡ on (sectorOf (a .size) j w) p
+        go : Dec (j ≡ a .number) → on (sectorOf (a .volume .size) j (leavesCall mirror v a c (cut the-cut))) p ≡ on (sectorOf (a .volume .size) j w) p
         go (yes h) =
-            subst (λ (i : ℕ). on (sectorOf (a .size) i (leavesCall mirror v a c (cut the-cut))) p ≡ on (sectorOf (a .size) i w) p) (sym h) (mine p)
+            subst (λ (i : ℕ). on (sectorOf (a .volume .size) i (leavesCall mirror v a c (cut the-cut))) p ≡ on (sectorOf (a .volume .size) i w) p) (sym h) (mine p)
         go (no n) = ap (λ (t : Triple). on t p) (after-cut the-cut is-cut .others j n ∙ sym (r .others j n))
 
     is-left : leavesCall mirror v a c (cut the-cut) ≡ w
     is-left =
-        images-same (a .size) (a .count) (leavesCall mirror v a c (cut the-cut)) w
+        images-same (a .volume .size) (a .volume .count) (leavesCall mirror v a c (cut the-cut)) w
         (λ p. after-cut the-cut is-cut .images .images p .long) (λ p. r .lengths p ∙ before .images p .long) all-sectors
 
-  exactly : (w : Triple) → ((k : Cut) × CutOf (a .size) (cut k) × (leavesCall mirror v a c (cut k) ≡ w)) ↔ CutLeaves v a c w
+  exactly : (w : Triple) → ((k : Cut) × CutOf (a .volume .size) (cut k) × (leavesCall mirror v a c (cut k) ≡ w)) ↔ CutLeaves v a c w
   exactly w = (λ (k, z, h). subst (CutLeaves v a c) h (keeps-rule k z), λ r. (the-cut w r, is-cut w r, is-left w r))
 
 -- ---- in a list
@@ -209,8 +210,8 @@ cut-exact = record {
   refused = leaves-refused mirror;
   accepted = λ vol v b a t c lent e w.
       let x = exactly v b a c lent e w in (
-        λ (k, m, h). x .0 (k, subst (λ (s : ℕ). CutOf s (cut k)) (sym (t .size)) (m .2), h),
-        λ r. let (k, z, h) = x .1 r in (k, (λ n. t, lent, subst (λ (s : ℕ). CutOf s (cut k)) (t .size) z), h),
+        λ (k, m, h). x .0 (k, subst (λ (u : Volume). CutOf (u .size) (cut k)) (sym t) (m .2), h),
+        λ r. let (k, z, h) = x .1 r in (k, (λ n. t, lent, subst (λ (u : Volume). CutOf (u .size) (cut k)) t z), h),
       );
   tag-told = λ S i t P k. (
     λ h. fits-Fits S i t tag P (told-fits (fits S i t tag P) h),

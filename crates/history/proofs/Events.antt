@@ -8,9 +8,10 @@ use native.Mathlib.Decide.{ℕ-discrete}
 use borrow.Author.Tests.{eq-eqb, ne-eqb}
 use Rattle.mode.specs.Sealing.{Triple, Key}
 use Rattle.mode.specs.Scheme.{Place, Scheme, Sound}
-use Rattle.history.specs.Volume.{sectorOf, write, Args, args, Call, sector, sealing, refusal}
+use Rattle.answers.specs.Rules.{Args, Volume}
+use Rattle.history.specs.Volume.{sectorOf, write, Call, sector, sealing, refusal}
 use Rattle.history.specs.Machine.{called, Held, step, afterDamage, State, put, machine}
-use Rattle.history.specs.Power.{Fate, Event, call, damage, isRefused, told, Volume, Takes, Images, Lent, CutOf, leavesCall, leaves, seen, Allowed, AllAllowed, run, hold}
+use Rattle.history.specs.Power.{Fate, Event, call, damage, isRefused, told, Images, Lent, CutOf, leavesCall, leaves, seen, Allowed, AllAllowed, run, hold}
 use Rattle.history.specs.History.{at, own}
 use Rattle.history.specs.HistoryFrom.{Agree, AnyBytes, Agrees}
 use Rattle.history.proofs.Refusals.{accepted-passed}
@@ -31,15 +32,15 @@ put-other i x h j n = ap (λ (u : Bool). cond u x (h j)) (ne-eqb j i n)
 
 -- the volume's key, s and n, and the number i
 abbrev pub argsOf : Volume → ℕ → Args
-argsOf vol i = args (vol .key) (vol .size) (vol .count) i
+argsOf vol i = record { volume = vol; number = i }
 
-pub takes-args : (vol : Volume) (a : Args) → Takes vol a → a ≡ argsOf vol (a .number)
-takes-args vol a k = λ j. record { key = k .key j; size = k .size j; count = k .count j; number = a .number }
+pub takes-args : (vol : Volume) (a : Args) → a .volume ≡ vol → a ≡ argsOf vol (a .number)
+takes-args vol a k = ap (λ (w : Volume). argsOf w (a .number)) k
 
 -- ---- calls
 
 module _ (seals : Key → Scheme) (vol : Volume) (v : Triple) (h : State) (a : Args) (c : Call) (f : Fate) where
-  pub machine-accepted : refusal seals v a c ≡ none → machine h (seen seals vol v (call a c f)) ≡ put (a .number) (step (a .size) c (told (sealing seals a) (a .number) (sector (leavesCall seals v a c f) a) c f) (h (a .number))) h
+  pub machine-accepted : refusal seals v a c ≡ none → machine h (seen seals vol v (call a c f)) ≡ put (a .number) (step (a .volume .size) c (told (sealing seals a) (a .number) (sector (leavesCall seals v a c f) a) c f) (h (a .number))) h
   machine-accepted e = ap (λ (r : Option ℕ). machine h (called a c (isRefused r) (told (sealing seals a) (a .number) (sector (leavesCall seals v a c f) a) c f))) e
 
   pub machine-refused : (k : ℕ) → refusal seals v a c ≡ some k → machine h (seen seals vol v (call a c f)) ≡ h
@@ -104,7 +105,7 @@ module _ (seals : Key → Scheme) (sound : Sound seals) (vol : Volume) where
     where
       go : (r : Option ℕ) → refusal seals v a c ≡ r → at vol (leavesCall seals v a c f) j ≡ at vol v j
       go none e =
-          let s : a .size ≡ vol .size = m .0 e .size in
-          subst (λ (k : ℕ). sectorOf k j (leavesCall seals v a c f) ≡ sectorOf k j v) s
-          (left seals sound v b a c f (m .1) (subst (λ (k : ℕ). CutOf k f) (sym s) (m .2)) e .others j n)
+          let t : a .volume ≡ vol = m .0 e in
+          subst (λ (u : Volume). sectorOf (u .size) j (leavesCall seals v a c f) ≡ sectorOf (u .size) j v) t
+          (left seals sound v b a c f (m .1) (subst (λ (u : Volume). CutOf (u .size) f) (sym t) (m .2)) e .others j n)
       go (some k) e = ap (λ (u : Triple). at vol u j) (leaves-refused seals v a c f k e)

@@ -7,9 +7,10 @@ use Prim.Native.Nat.{ℕ}
 use native.Mathlib.Decide.{ℕ-discrete}
 use Rattle.mode.specs.Sealing.{Triple, Key}
 use Rattle.mode.specs.Scheme.{Place, Scheme, Sound}
-use Rattle.history.specs.Volume.{Args, Call, refusal}
+use Rattle.answers.specs.Rules.{Args, Volume}
+use Rattle.history.specs.Volume.{Call, refusal}
 use Rattle.history.specs.Machine.{Held, gone, afterDamage, State, put, machine, start}
-use Rattle.history.specs.Power.{Fate, Event, call, damage, Volume, Images, leavesCall, leaves, seen, Allowed, AllAllowed, run, hold}
+use Rattle.history.specs.Power.{Fate, Event, call, damage, Images, leavesCall, leaves, seen, Allowed, AllAllowed, run, hold}
 use Rattle.history.specs.History.{at, own, Promise, Promised}
 use Rattle.history.specs.HistoryFrom.{Agree, AnyBytes, Agrees, HistoryFrom, HistoryAny}
 use Rattle.history.proofs.Refusals.{accepted-images}
@@ -53,8 +54,7 @@ module _ (seals : Key → Scheme) (sound : Sound seals) (vol : Volume) where
   either-call : (v : Triple) (h : State) → AnyBytes v → AllGone h → (a : Args) (c : Call) (f : Fate) → Allowed seals vol v (call a c f) → (r : Option ℕ) → refusal seals v a c ≡ r
       → Either (leavesCall seals v a c f) (machine h (seen seals vol v (call a c f)))
   either-call v h b z a c f m none e =
-      let k = m .0 e in
-      let I : Images (vol .size) (vol .count) v = subst (λ (n : ℕ). Images (vol .size) n v) (k .count) (subst (λ (s : ℕ). Images s (a .count) v) (k .size) (accepted-images seals v a c b e)) in
+      let I : Images (vol .size) (vol .count) v = subst (λ (u : Volume). Images (u .size) (u .count) v) (m .0 e) (accepted-images seals v a c b e) in
       from-agrees _ _ (event-step seals sound vol v h (gone-agrees v h I z) (call a c f) m)
   either-call v h b z a c f m (some k) e =
       subst (λ (w : Triple). Either w (machine h (seen seals vol v (call a c f)))) (sym (leaves-refused seals v a c f k e))

@@ -9,13 +9,15 @@ use Rattle.block.specs.Bytes.{Bytes, Plain, part, patch}
 use Rattle.mode.specs.Sealing.{Triple, Key}
 use Rattle.mode.specs.Scheme.{Place, local, tag, remote, on, wide, Scheme, Sector, Lawful, Sound}
 use Rattle.verdict.specs.Verdict.{Fits}
-use Rattle.history.specs.Volume.{sectorOf, store, write, writeAll, Args, Call, first, writes, unless, sector, sealing, refusal, landed, after}
+use Rattle.answers.specs.Rules.{Args}
+use Rattle.history.specs.Volume.{sectorOf, store, write, writeAll, Call, first, writes, unless, sector, sealing, refusal, landed, after}
 use Rattle.history.specs.Machine.{Held, step}
 use Rattle.history.specs.Power.{Fate, finished, cut, told, Images, Lent, CutOf, leavesCall}
 use Rattle.history.specs.HistoryFrom.{Agree, AnyBytes}
 use Rattle.block.proofs.Parts.{bytes-part, bytes-patch, length-part, length-patch, part-patch, part-other}
 use Rattle.verdict.proofs.JudgeExact.{same-place}
-use Rattle.history.proofs.Refusals.{Common, Passed, refusal-none, accepted-passed, accepted-images, sized}
+use Rattle.answers.proofs.Passing.{Common}
+use Rattle.history.proofs.Refusals.{Passed, refusal-none, accepted-passed, accepted-images, sized}
 use Rattle.history.proofs.Sector.{on-store, on-store-other, lands, storeAll, sectorAfter, AllPlain, writes-plain, keeps}
 
 -- ---- writing to a sector
@@ -105,43 +107,43 @@ module _ (seals : Key → Scheme) (v : Triple) (a : Args) (c : Call) where
 module _ (seals : Key → Scheme) (v : Triple) (a : Args) (c : Call) (f : Fate) (w : Triple) where
   -- what the call, with its own key, s and n, leaves: the other sectors as they were, its own, and images w of the same lengths
   pub record Left : Type 0 where
-    pub others : (j : ℕ) → (j ≡ a .number → ⊥) → sectorOf (a .size) j w ≡ sectorOf (a .size) j v
-    pub mine : sector w a ≡ sectorAfter (a .size) (sealing seals a) (a .number) (sector v a) c f
-    pub images : Images (a .size) (a .count) w
+    pub others : (j : ℕ) → (j ≡ a .number → ⊥) → sectorOf (a .volume .size) j w ≡ sectorOf (a .volume .size) j v
+    pub mine : sector w a ≡ sectorAfter (a .volume .size) (sealing seals a) (a .number) (sector v a) c f
+    pub images : Images (a .volume .size) (a .volume .count) w
 
 module _ (seals : Key → Scheme) (sound : Sound seals) where
   -- a call that passes the early checks has a lawful sealing
-  pub passed-lawful : (v : Triple) (a : Args) → Common v (a .key) (a .size) (a .count) → Lawful (a .size) (sealing seals a)
-  passed-lawful v a p = sound .lawful (a .key) (a .size) (p .key) (p .size)
+  pub passed-lawful : (v : Triple) (a : Args) → Common v (a .volume) → Lawful (a .volume .size) (sealing seals a)
+  passed-lawful v a p = sound .lawful (a .volume .key) (a .volume .size) (p .key) (p .size)
 
-  module _ (v : Triple) (b : AnyBytes v) (a : Args) (c : Call) (f : Fate) (lent : Lent c) (cuts : CutOf (a .size) f) (e : refusal seals v a c ≡ none) where
+  module _ (v : Triple) (b : AnyBytes v) (a : Args) (c : Call) (f : Fate) (lent : Lent c) (cuts : CutOf (a .volume .size) f) (e : refusal seals v a c ≡ none) where
     passed : Passed v a c
     passed = accepted-passed seals v a c e
 
-    before : Images (a .size) (a .count) v
+    before : Images (a .volume .size) (a .volume .count) v
     before = accepted-images seals v a c b e
 
-    here : Sector (a .size) (sector v a)
-    here = sector-images (a .size) (a .count) (a .number) (passed .number) v before
+    here : Sector (a .volume .size) (sector v a)
+    here = sector-images (a .volume .size) (a .volume .count) (a .number) (passed .number) v before
 
     pub left : Left seals v a c f (leavesCall seals v a c f)
     left =
-        let b : Place → List ℕ = lands f (sealing seals a .sealed (a .number) (writes (a .size) (sealing seals a) (a .number) (sector v a) c .plain)) (sector v a) in
-        let ps : List Place = writes (a .size) (sealing seals a) (a .number) (sector v a) c .places in
-        let pl : AllPlain (a .size) b ps = writes-plain (a .size) (sealing seals a) (passed-lawful v a (passed .common)) (a .number) (sector v a) here c f cuts (sized a c (passed .lengths) lent) in
+        let b : Place → List ℕ = lands f (sealing seals a .sealed (a .number) (writes (a .volume .size) (sealing seals a) (a .number) (sector v a) c .plain)) (sector v a) in
+        let ps : List Place = writes (a .volume .size) (sealing seals a) (a .number) (sector v a) c .places in
+        let pl : AllPlain (a .volume .size) b ps = writes-plain (a .volume .size) (sealing seals a) (passed-lawful v a (passed .common)) (a .number) (sector v a) here c f cuts (sized a c (passed .lengths) lent) in
         let q : leavesCall seals v a c f ≡ accepted seals v a c f = leaves-accepted seals v a c f e in
         record {
-          others = λ j n. ap (sectorOf (a .size) j) q ∙ others-all (a .size) (a .count) (a .number) (passed .number) b ps pl v before j n;
-          mine = ap (λ (u : Triple). sector u a) q ∙ sector-all (a .size) (a .count) (a .number) (passed .number) b ps pl v before;
-          images = subst (λ (u : Triple). Images (a .size) (a .count) u) (sym q) (images-all (a .size) (a .count) (a .number) (passed .number) b ps pl v before);
+          others = λ j n. ap (sectorOf (a .volume .size) j) q ∙ others-all (a .volume .size) (a .volume .count) (a .number) (passed .number) b ps pl v before j n;
+          mine = ap (λ (u : Triple). sector u a) q ∙ sector-all (a .volume .size) (a .volume .count) (a .number) (passed .number) b ps pl v before;
+          images = subst (λ (u : Triple). Images (a .volume .size) (a .volume .count) u) (sym q) (images-all (a .volume .size) (a .volume .count) (a .number) (passed .number) b ps pl v before);
         }
 
     -- what was held of the sector, and agreed with its places, agrees with them after the machine's step
-    pub held-after : (x : Held) → Agree (a .size) (sealing seals a) (a .number) (sector v a) x
-        → Agree (a .size) (sealing seals a) (a .number) (sector (leavesCall seals v a c f) a) (step (a .size) c (told (sealing seals a) (a .number) (sector (leavesCall seals v a c f) a) c f) x)
+    pub held-after : (x : Held) → Agree (a .volume .size) (sealing seals a) (a .number) (sector v a) x
+        → Agree (a .volume .size) (sealing seals a) (a .number) (sector (leavesCall seals v a c f) a) (step (a .volume .size) c (told (sealing seals a) (a .number) (sector (leavesCall seals v a c f) a) c f) x)
     held-after x g =
-        subst (λ (u : Triple). Agree (a .size) (sealing seals a) (a .number) u (step (a .size) c (told (sealing seals a) (a .number) u c f) x)) (sym (left .mine))
-        (keeps (a .size) (sealing seals a) (passed-lawful v a (passed .common)) (a .number) (sector v a) here c f x
+        subst (λ (u : Triple). Agree (a .volume .size) (sealing seals a) (a .number) u (step (a .volume .size) c (told (sealing seals a) (a .number) u c f) x)) (sym (left .mine))
+        (keeps (a .volume .size) (sealing seals a) (passed-lawful v a (passed .common)) (a .number) (sector v a) here c f x
         (sized a c (passed .lengths) lent) (refusal-none seals v a c e .1) g)
 
   -- an accepted first stage leaves a local place that its plaintext fits

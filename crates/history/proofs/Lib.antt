@@ -6,7 +6,6 @@ pub mod Events
 pub mod Promises
 pub mod History
 pub mod Demand3
-pub mod Ranges
 pub mod Outcomes
 pub mod Meaning
 pub mod Cuts

@@ -9,7 +9,8 @@ use lib.ListN.{length}
 use Rattle.block.proofs.Lists.{false-true, and-left, and-right, and-both}
 use Rattle.mode.specs.Sealing.{Triple}
 use Rattle.mode.specs.Scheme.{Place, local, tag, remote, Scheme}
-use Rattle.verdict.specs.Answers.{doubtNumber}
+use Rattle.answers.specs.Answers.{doubtNumber}
+use Rattle.answers.specs.Rules.{Args}
 use Rattle.verdict.specs.Judging.{verdictOutcome, verdictNumber}
 use Rattle.verdict.specs.Verdict.{Verdict, whole, doubtful, lost, clashing, fits, judge}
 use Rattle.verdict.proofs.JudgeExact.{fits-Fits, Fits-fits, judge-exact}
@@ -17,7 +18,7 @@ use Rattle.verdict.proofs.Numbers.{outcome-number, number-whole, number-doubtfu
 use Rattle.history.specs.Answers.{isWhole}
 use Rattle.history.specs.HistoryFrom.{AnyBytes}
 use Rattle.history.specs.Meaning.{Passes, Is, FitsAt, sealedIn, CallMeans, CallsMean}
-use Rattle.history.specs.Volume.{Args, Call, blank, first, second, third, mend, read, sector, mirror, outcome, readOutcome}
+use Rattle.history.specs.Volume.{Call, blank, first, second, third, mend, read, sector, mirror, outcome, readOutcome}
 use Rattle.history.proofs.Demand3.{mirror-sound}
 use Rattle.history.proofs.Images.{sector-images, passed-lawful}
 use Rattle.history.proofs.Outcomes.{mended, outcome-early, outcome-read, outcome-late, outcome-stage, outcome-mend, read-early, read-late}
@@ -35,7 +36,7 @@ mended-number S s i v clashing = refl
 
 module _ (v : Triple) (b : AnyBytes v) (a : Args) where
   abbrev S : Scheme
-  S = mirror (a .key)
+  S = mirror (a .volume .key)
 
   abbrev verdict : Verdict
   verdict = judge S (a .number) (sector v a)
@@ -45,8 +46,8 @@ module _ (v : Triple) (b : AnyBytes v) (a : Args) where
   exact : (c : Call) → Passes v a c → (w : Verdict) → (verdict ≡ w) ↔ Is v a w
   exact c e w =
       let p = passed v a c e in
-      judge-exact (a .size) S (passed-lawful mirror mirror-sound v a (p .common)) (a .number) (sector v a)
-      (sector-images (a .size) (a .count) (a .number) (p .number) v (shape-images (a .size) (a .count) v (p .common .shape) b)) w
+      judge-exact (a .volume .size) S (passed-lawful mirror mirror-sound v a (p .common)) (a .number) (sector v a)
+      (sector-images (a .volume .size) (a .volume .count) (a .number) (p .number) v (shape-images (a .volume .size) (a .volume .count) v (p .common .shape) b)) w
 
   one-verdict : (c : Call) → Passes v a c → (w : Verdict) × Is v a w × ((u : Verdict) → Is v a u → u ≡ w)
   one-verdict c e = (verdict, exact c e verdict .0 refl, λ u m. sym (exact c e u .1 m))
@@ -97,10 +98,10 @@ module _ (v : Triple) (b : AnyBytes v) (a : Args) where
     Mends r = outcome mirror v a mend ≡ r
 
     mend-number : {n : ℕ} → outcome mirror v a mend .0 ≡ n → verdictNumber verdict ≡ n
-    mend-number g = sym (ap number (outcome-mend mirror v a e) ∙ mended-number S (a .size) (a .number) v verdict) ∙ g
+    mend-number g = sym (ap number (outcome-mend mirror v a e) ∙ mended-number S (a .volume .size) (a .number) v verdict) ∙ g
 
-    mends : (w : Verdict) → Is v a w → Mends (mended S (a .size) (a .number) v w)
-    mends w m = outcome-mend mirror v a e ∙ ap (mended S (a .size) (a .number) v) (exact mend e w .1 m)
+    mends : (w : Verdict) → Is v a w → Mends (mended S (a .volume .size) (a .number) v w)
+    mends w m = outcome-mend mirror v a e ∙ ap (mended S (a .volume .size) (a .number) v) (exact mend e w .1 m)
 
     mend-lost : Mends (6, v) ↔ Is v a lost
     mend-lost = (λ g. exact mend e lost .0 (number-lost verdict (mend-number (ap number g))), mends lost)

@@ -7,11 +7,12 @@ use Prim.Native.Nat.{ℕ}
 use lib.ListN.{length}
 use Rattle.mode.specs.Sealing.{Triple, Key}
 use Rattle.mode.specs.Scheme.{on, Scheme}
-use Rattle.verdict.specs.Answers.{rule, firstOf, foundNumber, settle}
+use Rattle.answers.specs.Answers.{foundNumber}
+use Rattle.answers.specs.Rules.{rule, firstOf, settle, Args}
 use Rattle.verdict.specs.Judging.{verdictRefusal, verdictDoubt, verdictPlain, verdictOutcome}
 use Rattle.verdict.specs.Verdict.{Verdict, whole, doubtful, lost, clashing, judge}
 use Rattle.history.specs.Answers.{Answer, done, gives, reply, answerNumber, output}
-use Rattle.history.specs.Volume.{writeAll, Args, Call, mend, read, judgeRules, early, late, mends, result, unless, sector, sealing, refusal, answer, after, outcome, readOutcome}
+use Rattle.history.specs.Volume.{writeAll, Call, mend, read, judgeRules, early, late, mends, result, unless, sector, sealing, refusal, answer, after, outcome, readOutcome}
 use Rattle.history.specs.Power.{finished}
 use Rattle.history.proofs.Refusals.{refusal-late, refusal-early, answer-refused, answer-late, early-answer}
 use Rattle.history.proofs.Images.{accepted, after-refused}
@@ -80,13 +81,13 @@ module _ (seals : Key → Scheme) (v : Triple) (a : Args) where
 
   -- ---- by the verdict
 
-  mend-by : (w : Verdict) → settle (firstOf (judgeRules w)) (foundNumber (verdictDoubt w), writeAll (a .size) (a .number) (on (sealing seals a .sealed (a .number) (mends w .plain))) (mends w .places) v) v ≡ mended (sealing seals a) (a .size) (a .number) v w
+  mend-by : (w : Verdict) → settle (firstOf (judgeRules w)) (foundNumber (verdictDoubt w), writeAll (a .volume .size) (a .number) (on (sealing seals a .sealed (a .number) (mends w .plain))) (mends w .places) v) v ≡ mended (sealing seals a) (a .volume .size) (a .number) v w
   mend-by (whole P) = refl
   mend-by (doubtful p P) = refl
   mend-by lost = refl
   mend-by clashing = refl
 
-  pub outcome-mend : firstOf (early v a mend) ≡ none → outcome seals v a mend ≡ mended (sealing seals a) (a .size) (a .number) v (judge (sealing seals a) (a .number) (sector v a))
+  pub outcome-mend : firstOf (early v a mend) ≡ none → outcome seals v a mend ≡ mended (sealing seals a) (a .volume .size) (a .number) v (judge (sealing seals a) (a .number) (sector v a))
   outcome-mend e = outcome-late mend e ∙ mend-by (judge (sealing seals a) (a .number) (sector v a))
 
   pub read-late : (out : List ℕ) → firstOf (early v a (read (length out))) ≡ none → readOutcome seals v a out ≡ verdictOutcome (judge (sealing seals a) (a .number) (sector v a)) out

@@ -10,13 +10,14 @@ use Rattle.mode.specs.Sealing.{Triple, Key}
 use Rattle.mode.specs.Scheme.{Place, local, tag, Scheme, Sector, Lawful, Sound}
 use Rattle.verdict.specs.Verdict.{Fits, FitsTwo, Verdict, whole, doubtful, lost, clashing, Means, fits, judge}
 use lib.ListN.{length}
-use Rattle.verdict.specs.Answers.{firstOf, doubtNumber, foundNumber}
+use Rattle.answers.specs.Answers.{doubtNumber, foundNumber}
+use Rattle.answers.specs.Rules.{firstOf, Args, Volume}
 use Rattle.verdict.specs.Judging.{verdictDoubt, verdictOutcome, verdictNumber}
 use Rattle.verdict.proofs.Numbers.{outcome-number, number-lost}
 use Rattle.history.specs.Answers.{Answer, done, found, reply, isWhole, answerNumber}
-use Rattle.history.specs.Volume.{Args, Call, blank, first, second, third, mend, read, judgeRules, late, result, sector, sealing, refusal, answer, after, outcome, readOutcome}
+use Rattle.history.specs.Volume.{Call, blank, first, second, third, mend, read, judgeRules, late, result, sector, sealing, refusal, answer, after, outcome, readOutcome}
 use Rattle.history.specs.Machine.{Held, gone, kept, State}
-use Rattle.history.specs.Power.{Volume, Images}
+use Rattle.history.specs.Power.{Images}
 use Rattle.history.specs.History.{Proper, ProperRead, at, own, Sure, Reads, clashes, fits-too, fits-not, Unsure, Found, Promise, Promised}
 use Rattle.history.specs.HistoryFrom.{Agree, AnyBytes, Agrees}
 use Rattle.block.proofs.Lists.{same-eq, ne-same}
@@ -94,7 +95,7 @@ module _ (seals : Key → Scheme) (sound : Sound seals) (vol : Volume) (v : Trip
 
   -- a proper call shows that the volume's sealing is lawful
   proper-lawful : (a : Args) (c : Call) → Proper vol v i a c → Lawful (vol .size) (own seals vol)
-  proper-lawful a c p = subst (λ (b : Args). Lawful (b .size) (sealing seals b)) (proper-args seals vol v i a c p) (passed-lawful seals sound v a (passed v a c (p .passes) .common))
+  proper-lawful a c p = subst (λ (b : Args). Lawful (b .volume .size) (sealing seals b)) (proper-args seals vol v i a c p) (passed-lawful seals sound v a (passed v a c (p .passes) .common))
 
   sure : (P : List ℕ) → Agree (vol .size) (own seals vol) i (at vol v i) (kept P none) → Sure seals vol v i P
   unfolding outcome

@@ -1,69 +1,43 @@
 -- What a call refuses and answers. Assumes nothing.
-use mathlib.Core.Path.{_≡_, refl, sym, _∙_, ap}
-use mathlib.Core.Bool.{Bool, true, false, _&&_, not, cond}
-use mathlib.Core.List.{List, [], _∷_, _++_}
+use mathlib.Core.Path.{_≡_, sym, _∙_, ap}
+use mathlib.Core.Bool.{true, not}
+use mathlib.Core.List.{List, _++_}
 use mathlib.Core.Option.{Option, none, some}
-use Prim.Native.Nat.{ℕ, _≤_, _<_, _*_}
+use Prim.Native.Nat.{ℕ, _<_, _*_}
 use native.Mathlib.Nat.{eq-of-mul-eq-mul-left}
 use native.Mathlib.Omega.{arith}
-use lib.Dec.{eqb, leb}
+use lib.Dec.{leb}
 use lib.ListN.{length}
-use borrow.Author.Tests.{not-false, leb-true, leb-false, lt-leb, eqb-true}
+use borrow.Author.Tests.{leb-false, lt-leb}
 use Rattle.block.specs.Bytes.{Plain}
 use Rattle.mode.specs.Sealing.{Triple, Key}
-use Rattle.mode.specs.Scheme.{Place, local, tag, remote, on, wide, isKey, isSize, Scheme}
-use Rattle.verdict.specs.Answers.{Rule, rule, firstOf}
+use Rattle.mode.specs.Scheme.{local, tag, Scheme}
+use Rattle.answers.specs.Rules.{numberRules, Rule, firstOf, Args, isShape, volumeRules, sectorRules}
 use Rattle.history.specs.Answers.{refused, reply}
-use Rattle.history.specs.Volume.{Args, Call, blank, first, second, third, mend, read, shape, isShape, volumeRules, sectorRules, lengths, early, late, result, sector, sealing, refusal, answer}
+use Rattle.history.specs.Volume.{Call, blank, first, second, third, mend, read, lengths, early, late, result, sector, sealing, refusal, answer}
 use Rattle.history.specs.Power.{Images, Lent}
 use Rattle.history.specs.HistoryFrom.{AnyBytes}
-use Rattle.block.proofs.Lists.{and-left, and-right}
-use Rattle.verdict.proofs.Rules.{cond-none, only-rule, first-none, first-some, none-left, none-right}
-
--- ---- lists of rules
-
--- no rule holds
-abbrev NoneHolds : List Rule → Type 0
-NoneHolds [] = Unit {0}
-NoneHolds (r ∷ rs) = (r .condition ≡ false) × NoneHolds rs
-
-none-holds : (rs : List Rule) → firstOf rs ≡ none → NoneHolds rs
-none-holds [] e = tt
-none-holds (r ∷ rs) e = let u = cond-none (r .condition) (r .number) (firstOf rs) e in (u .0, none-holds rs (u .1))
-
-holds-none : (rs : List Rule) → NoneHolds rs → firstOf rs ≡ none
-holds-none [] h = refl
-holds-none (r ∷ rs) h = ap (λ (b : Bool). cond b (some (r .number)) (firstOf rs)) (h .0) ∙ holds-none rs (h .1)
+use Rattle.answers.proofs.Rules.{only-rule, first-none, first-some, none-left, none-right}
+use Rattle.answers.proofs.Shapes.{shape-facts}
+use Rattle.answers.proofs.Passing.{Common, common, holds-none, length-due}
 
 -- ---- early refusals
 
--- What passing them shows. Other proofs go by these facts: only `common`, `passed` and `passes-early` read the lists of rules. First what
--- every call checks,
-pub record Common (v : Triple) (k : Key) (s n : ℕ) : Type 0 where
-  pub key : isKey k ≡ true
-  pub size : isSize s ≡ true
-  pub shape : isShape s n v ≡ true
-
--- then what a call on one sector checks besides.
+-- What passing them shows. Other proofs go by these facts: here only `passed` and `passes-early` read the lists of rules.
 pub record Passed (v : Triple) (a : Args) (c : Call) : Type 0 where
-  pub common : Common v (a .key) (a .size) (a .count)
-  pub number : a .number < a .count
+  pub common : Common v (a .volume)
+  pub number : a .number < a .volume .count
   pub lengths : firstOf (lengths a c) ≡ none
-
-pub common : (v : Triple) (k : Key) (s n : ℕ) → firstOf (volumeRules k s (isShape s n v)) ≡ none → Common v k s n
-common v k s n e =
-    let (a, (b, (c, z))) = none-holds (volumeRules k s (isShape s n v)) e in
-    record { key = not-false (isKey k) a; size = not-false (isSize s) b; shape = not-false (isShape s n v) c }
 
 pub passed : (v : Triple) (a : Args) (c : Call) → firstOf (early v a c) ≡ none → Passed v a c
 unfolding early
 passed v a c e =
-    let every : List Rule = volumeRules (a .key) (a .size) (isShape (a .size) (a .count) v) in
-    let nine : List Rule = rule 9 (leb (a .count) (a .number)) ∷ [] in
+    let every : List Rule = volumeRules (a .volume) (isShape (a .volume .size) (a .volume .count) v) in
+    let nine : List Rule = numberRules (a .volume .count) (a .number) in
     let e′ : firstOf (every ++ nine) ≡ none = none-left (lengths a c) (every ++ nine) e in
     record {
-      common = common v (a .key) (a .size) (a .count) (none-left nine every e′);
-      number = leb-false (a .count) (a .number) (only-rule (leb (a .count) (a .number)) 9 (none-right nine every e′));
+      common = common v (a .volume) (none-left nine every e′);
+      number = leb-false (a .volume .count) (a .number) (only-rule (leb (a .volume .count) (a .number)) 9 (none-right nine every e′));
       lengths = none-right (lengths a c) (every ++ nine) e;
     }
 
@@ -71,8 +45,8 @@ pub passes-early : (v : Triple) (a : Args) (c : Call) → Passed v a c → first
 unfolding early
 passes-early v a c p =
     let o = p .common in
-    first-none (lengths a c) (sectorRules (isShape (a .size) (a .count) v) a)
-    (holds-none (sectorRules (isShape (a .size) (a .count) v) a) (ap not (o .key), (ap not (o .size), (ap not (o .shape), (lt-leb (a .count) (a .number) (p .number), tt)))))
+    first-none (lengths a c) (sectorRules (isShape (a .volume .size) (a .volume .count) v) a)
+    (holds-none (sectorRules (isShape (a .volume .size) (a .volume .count) v) a) (ap not (o .key), (ap not (o .size), (ap not (o .shape), (lt-leb (a .volume .count) (a .number) (p .number), tt)))))
     ∙ p .lengths
 
 -- a stage's plaintext is s bytes
@@ -84,38 +58,15 @@ Sized s (third P) = Plain s P
 Sized s mend = Unit {0}
 Sized s (read o) = Unit {0}
 
-pub long-3 : (m s : ℕ) → firstOf (rule 3 (not (eqb m s)) ∷ []) ≡ none → m ≡ s
-long-3 m s e = eqb-true m s (not-false (eqb m s) (only-rule (not (eqb m s)) 3 e))
-
-pub sized : (a : Args) (c : Call) → firstOf (lengths a c) ≡ none → Lent c → Sized (a .size) c
+pub sized : (a : Args) (c : Call) → firstOf (lengths a c) ≡ none → Lent c → Sized (a .volume .size) c
 sized a blank e l = tt
-sized a (first P) e l = record { long = long-3 (length P) (a .size) e; bytes = l }
-sized a (second P) e l = record { long = long-3 (length P) (a .size) e; bytes = l }
-sized a (third P) e l = record { long = long-3 (length P) (a .size) e; bytes = l }
+sized a (first P) e l = record { long = length-due (length P) (a .volume .size) e; bytes = l }
+sized a (second P) e l = record { long = length-due (length P) (a .volume .size) e; bytes = l }
+sized a (third P) e l = record { long = length-due (length P) (a .volume .size) e; bytes = l }
 sized a mend e l = tt
 sized a (read o) e l = tt
 
 -- ---- the shape of three images
-
-pub shape-facts : (s n : ℕ) (v : Triple) → isShape s n v ≡ true → (1 ≤ n) × ((p : Place) → length (on v p) ≡ n * wide s p)
-unfolding isShape shape
-shape-facts s n v e = (leb-true 1 n (and-left (leb 1 n) _ e), go)
-  where
-    lengths-hold : (eqb (length (v .local)) (n * s) && (eqb (length (v .remote)) (n * s) && eqb (length (v .tag)) (n * 16))) ≡ true
-    lengths-hold = and-right (leb n 65536) _ (and-right (leb 1 n) _ e)
-
-    go : (p : Place) → length (on v p) ≡ n * wide s p
-    go local = eqb-true (length (v .local)) (n * s) (and-left (eqb (length (v .local)) (n * s)) _ lengths-hold)
-    go tag =
-        eqb-true (length (v .tag)) (n * 16)
-        (and-right (eqb (length (v .remote)) (n * s)) _ (and-right (eqb (length (v .local)) (n * s)) _ lengths-hold))
-    go remote =
-        eqb-true (length (v .remote)) (n * s)
-        (and-left (eqb (length (v .remote)) (n * s)) _ (and-right (eqb (length (v .local)) (n * s)) _ lengths-hold))
-
-pub count-le : (s n : ℕ) (v : Triple) → isShape s n v ≡ true → n ≤ 65536
-unfolding isShape shape
-count-le s n v e = leb-true n 65536 (and-left (leb n 65536) _ (and-right (leb 1 n) _ e))
 
 pub shape-images : (s n : ℕ) (v : Triple) → isShape s n v ≡ true → AnyBytes v → Images s n v
 shape-images s n v e b = record { images = λ p. record { long = shape-facts s n v e .1 p; bytes = b p } }
@@ -152,8 +103,8 @@ module _ (seals : Key → Scheme) (v : Triple) (a : Args) (c : Call) where
   accepted-passed e = passed v a c (refusal-none e .0)
 
   -- the images are those of its s and n
-  pub accepted-images : AnyBytes v → refusal seals v a c ≡ none → Images (a .size) (a .count) v
-  accepted-images b e = shape-images (a .size) (a .count) v (accepted-passed e .common .shape) b
+  pub accepted-images : AnyBytes v → refusal seals v a c ≡ none → Images (a .volume .size) (a .volume .count) v
+  accepted-images b e = shape-images (a .volume .size) (a .volume .count) v (accepted-passed e .common .shape) b
 
   pub answer-refused : (k : ℕ) → refusal seals v a c ≡ some k → answer seals v a c ≡ refused k
   unfolding answer

@@ -8,9 +8,10 @@ use Rattle.mode.specs.Sealing.{Triple}
 use Rattle.mode.specs.Scheme.{Place, local, tag, remote, Scheme}
 use Rattle.verdict.specs.Verdict.{fits}
 use Rattle.verdict.proofs.JudgeExact.{fits-Fits, Fits-fits}
-use Rattle.history.specs.Volume.{Args, Call, blank, first, second, third, mend, read, sector, sealing, refusal, mirror}
+use Rattle.answers.specs.Rules.{Args, Volume}
+use Rattle.history.specs.Volume.{Call, blank, first, second, third, mend, read, sector, sealing, refusal, mirror}
 use Rattle.history.specs.Machine.{toldCut, gone, kept, doubtLocal, cleared, step, isPlace, afterDamage, State}
-use Rattle.history.specs.Power.{Cut, Fate, finished, cut, call, told, Volume, leavesCall}
+use Rattle.history.specs.Power.{Cut, Fate, finished, cut, call, told, leavesCall}
 use Rattle.history.specs.Rules.{held, Accepted, NewTag, Rules, PlainMachine}
 use Rattle.history.proofs.Events.{put-same, put-other, machine-accepted, machine-refused}
 use Rattle.history.proofs.Sector.{is-place}
@@ -18,7 +19,7 @@ use Rattle.history.proofs.Sector.{is-place}
 module _ (vol : Volume) (v : Triple) (h : State) where
   -- what the call's sector holds is the machine's step
   stepped : (a : Args) (c : Call) (f : Fate) → Accepted vol v h a c
-      → held vol v h (call a c f) (a .number) ≡ step (a .size) c (told (sealing mirror a) (a .number) (sector (leavesCall mirror v a c f) a) c f) (h (a .number))
+      → held vol v h (call a c f) (a .number) ≡ step (a .volume .size) c (told (sealing mirror a) (a .number) (sector (leavesCall mirror v a c f) a) c f) (h (a .number))
   stepped a c f e = ap (λ (y : State). y (a .number)) (machine-accepted mirror vol v h a c f e) ∙ put-same (a .number) _ h
 
   others : (a : Args) (c : Call) (f : Fate) (j : ℕ) → (j ≡ a .number → ⊥) → held vol v h (call a c f) j ≡ h j
@@ -43,8 +44,8 @@ module _ (vol : Volume) (v : Triple) (h : State) where
     abbrev t : Triple
     t = sector (leavesCall mirror v a (second P) (cut k)) a
 
-    told-so : (b : Bool) → fits S (a .number) t tag P ≡ b → held vol v h (call a (second P) (cut k)) (a .number) ≡ step (a .size) (second P) (toldCut b) (h (a .number))
-    told-so b eb = stepped a (second P) (cut k) e ∙ ap (λ (x : Bool). step (a .size) (second P) (toldCut x) (h (a .number))) eb
+    told-so : (b : Bool) → fits S (a .number) t tag P ≡ b → held vol v h (call a (second P) (cut k)) (a .number) ≡ step (a .volume .size) (second P) (toldCut b) (h (a .number))
+    told-so b eb = stepped a (second P) (cut k) e ∙ ap (λ (x : Bool). step (a .volume .size) (second P) (toldCut x) (h (a .number))) eb
 
     second-new : NewTag vol v h a P k → held vol v h (call a (second P) (cut k)) (a .number) ≡ kept P (some remote)
     second-new n = told-so true (Fits-fits S (a .number) t tag P n)

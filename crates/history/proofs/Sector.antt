@@ -11,7 +11,7 @@ use Rattle.block.specs.Bytes.{Plain}
 use Rattle.mode.specs.Sealing.{Triple}
 use Rattle.mode.specs.Scheme.{Place, local, tag, remote, on, wide, Scheme, Sector, Lawful}
 use Rattle.verdict.specs.Verdict.{Fits, FitsTwo, Verdict, whole, doubtful, lost, clashing, Means, fits, judge}
-use Rattle.verdict.specs.Answers.{rule, firstOf}
+use Rattle.answers.specs.Rules.{rule, firstOf}
 use Rattle.history.specs.Answers.{isWhole}
 use Rattle.history.specs.Volume.{store, Call, blank, first, second, third, mend, read, judgeRules, late, mends, writes}
 use Rattle.history.specs.Machine.{toldCut, Held, gone, kept, step, afterDamage, isPlace}
@@ -20,7 +20,7 @@ use Rattle.history.specs.HistoryFrom.{Agree}
 use Rattle.block.proofs.Lists.{clash, false-true, and-left, and-right, and-both, plain-zeros}
 use Rattle.history.proofs.Options.{none-some}
 use Rattle.verdict.proofs.JudgeExact.{same-place, FitsBut, fits-Fits, Fits-fits, but-two, but-miss, one-for-all, judge-means, means-once}
-use Rattle.verdict.proofs.Rules.{cond-none, only-rule}
+use Rattle.answers.proofs.Rules.{cond-none, only-rule}
 use Rattle.history.proofs.Refusals.{Sized}
 
 -- bytes for each place, stored in some of the places

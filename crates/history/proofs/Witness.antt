@@ -12,11 +12,11 @@ use Rattle.block.proofs.Lists.{and-both, plain-zeros}
 use Rattle.mode.specs.Sealing.{Triple}
 use Rattle.mode.specs.Scheme.{Place, local, tag, remote, wide, Lawful}
 use Rattle.verdict.specs.Verdict.{Fits, judge, whole}
-use Rattle.verdict.specs.Answers.{firstOf}
+use Rattle.answers.specs.Rules.{firstOf, Args, isShape, shape, Volume}
 use Rattle.verdict.proofs.JudgeExact.{local-remote, tag-remote}
-use Rattle.history.specs.Volume.{write, Args, Call, blank, first, second, third, mend, read, isShape, shape, lengths, early, refusal, mirror}
+use Rattle.history.specs.Volume.{write, Call, blank, first, second, third, mend, read, lengths, early, refusal, mirror}
 use Rattle.history.specs.Machine.{toldFinished, Held, kept, afterDamage, State, start, step, machine}
-use Rattle.history.specs.Power.{finished, Event, call, damage, Volume, Images, Lent, leavesCall, seen, Allowed, AllAllowed}
+use Rattle.history.specs.Power.{finished, Event, call, damage, Images, Lent, leavesCall, seen, Allowed, AllAllowed}
 use Rattle.history.specs.History.{at, own, Proper, ProperRead}
 use Rattle.history.specs.HistoryFrom.{Agree, Agrees}
 use Rattle.history.specs.Witness.{Accepted, Reaches, Reached}
@@ -55,7 +55,7 @@ module _ (vol : Volume) (accepted : Accepted vol) (i : ℕ) (lt : i < vol .count
   same-length m e = simp (eq-eqb m (vol .size) e)
 
   allowed : (v : Triple) (c : Call) → Lent c → Allowed mirror vol v (call a c finished)
-  allowed v c l = (λ e. record { key = refl; size = refl; count = refl }, l, tt)
+  allowed v c l = (λ e. refl, l, tt)
 
   -- a finished call that is not refused: what is held agrees afterwards, and is the machine's step
   module _ (v : Triple) (h : State) (g : Agrees mirror vol v h) (c : Call) (l : Lent c) where
@@ -174,7 +174,7 @@ module _ (vol : Volume) (accepted : Accepted vol) (i : ℕ) (lt : i < vol .count
         (allowed v blank tt, (allowed v₁ (first P) (plain .bytes), (allowed v₂ (second P) (plain .bytes), (allowed v₃ (third P) (plain .bytes), m))))
 
     proper : (w : Triple) → Images (vol .size) (vol .count) w → (c : Call) → Lent c → firstOf (lengths a c) ≡ none → Proper vol w i a c
-    proper w J c l e = record { takes = record { key = refl; size = refl; count = refl }; names = refl; lent = l; passes = passes w J c e }
+    proper w J c l e = record { takes = refl; names = refl; lent = l; passes = passes w J c e }
 
     reads : (w : Triple) → Images (vol .size) (vol .count) w → ProperRead vol w i a (replicate (vol .size) 0)
     reads w J = proper w J (read (length (replicate (vol .size) 0))) tt (same-length (length (replicate (vol .size) 0)) (length-replicate (vol .size) 0))

@@ -4,7 +4,7 @@ use mathlib.Core.List.{List}
 use mathlib.Core.Option.{Option, none, some}
 use Prim.Native.Nat.{ℕ}
 use Rattle.mode.specs.Scheme.{Place}
-use Rattle.verdict.specs.Answers.{foundNumber}
+use Rattle.answers.specs.Answers.{foundNumber}
 use Rattle.verdict.specs.Verdict.{Verdict, whole, doubtful, lost, clashing}
 
 pub data Answer : Type 0 where

@@ -10,14 +10,15 @@ use Rattle.block.specs.Bytes.{Plain}
 use Rattle.mode.specs.Sealing.{Triple, Key}
 use Rattle.mode.specs.Scheme.{Place, local, Scheme}
 use Rattle.verdict.specs.Verdict.{Fits, FitsTwo, Means, lost}
-use Rattle.verdict.specs.Answers.{firstOf, doubtNumber}
-use Rattle.history.specs.Volume.{Args, Call, first, mend, read, sectorOf, early, outcome, readOutcome, mirror}
+use Rattle.answers.specs.Answers.{doubtNumber}
+use Rattle.answers.specs.Rules.{firstOf, Args, Volume}
+use Rattle.history.specs.Volume.{Call, first, mend, read, sectorOf, early, outcome, readOutcome, mirror}
 use Rattle.history.specs.Machine.{Held, gone, kept, State, start}
-use Rattle.history.specs.Power.{Fate, Event, call, Volume, Takes, Images, Lent, leavesCall, Allowed, AllAllowed, run, hold}
+use Rattle.history.specs.Power.{Fate, Event, call, Images, Lent, leavesCall, Allowed, AllAllowed, run, hold}
 
 -- document 01's "proper" call, on sector i: it takes the volume's key, s and n, and none of the early refusals turns it away
 pub record Proper (vol : Volume) (v : Triple) (i : ℕ) (a : Args) (c : Call) : Type 0 where
-  pub takes : Takes vol a
+  pub takes : a .volume ≡ vol
   pub names : a .number ≡ i
   pub lent : Lent c
   pub passes : firstOf (early v a c) ≡ none

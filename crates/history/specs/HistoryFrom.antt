@@ -9,7 +9,8 @@ use Rattle.mode.specs.Scheme.{Place, on, Scheme}
 use Rattle.verdict.specs.Verdict.{Fits}
 use Rattle.history.specs.Volume.{mirror}
 use Rattle.history.specs.Machine.{Held, gone, kept, State, start}
-use Rattle.history.specs.Power.{Event, Volume, Images, AllAllowed, run, hold}
+use Rattle.answers.specs.Rules.{Volume}
+use Rattle.history.specs.Power.{Event, Images, AllAllowed, run, hold}
 use Rattle.history.specs.History.{at, own, Promised}
 
 -- a kept plaintext, of s bytes, fits every place that is not in doubt

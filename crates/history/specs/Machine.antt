@@ -7,7 +7,8 @@ use Prim.Native.Nat.{ℕ}
 use lib.Dec.{eqb}
 use lib.ListN.{replicate}
 use Rattle.mode.specs.Scheme.{Place, local, tag, remote}
-use Rattle.history.specs.Volume.{Args, Call, blank, first, second, third, mend, read}
+use Rattle.answers.specs.Rules.{Args}
+use Rattle.history.specs.Volume.{Call, blank, first, second, third, mend, read}
 
 -- ---- what it sees
 
@@ -80,7 +81,7 @@ put i x h j = cond (eqb j i) x (h j)
 -- a call that is or would be refused changes nothing
 abbrev pub machine : State → Seen → State
 machine h (called a c true m) = h
-machine h (called a c false m) = put (a .number) (step (a .size) c m (h (a .number))) h
+machine h (called a c false m) = put (a .number) (step (a .volume .size) c m (h (a .number))) h
 machine h (damaged p i) = put i (afterDamage p (h i)) h
 
 -- all sectors start gone

@@ -9,22 +9,9 @@ use Rattle.block.specs.Bytes.{Bytes, Plain}
 use Rattle.mode.specs.Sealing.{Triple, Key}
 use Rattle.mode.specs.Scheme.{Place, local, tag, remote, on, wide, Scheme}
 use Rattle.verdict.specs.Verdict.{fits}
-use Rattle.history.specs.Volume.{Args, Call, blank, first, second, third, mend, read, write, unless, sector, sealing, refusal, landed, after}
+use Rattle.answers.specs.Rules.{Args, Volume}
+use Rattle.history.specs.Volume.{Call, blank, first, second, third, mend, read, write, unless, sector, sealing, refusal, landed, after}
 use Rattle.history.specs.Machine.{Told, toldFinished, toldCut, Seen, called, damaged, State, machine}
-
--- ---- a volume
-
--- a volume's key, s and n
-pub record Volume : Type 0 where
-  pub key : Key
-  pub size : ℕ
-  pub count : ℕ
-
--- a call takes them
-pub record Takes (vol : Volume) (a : Args) : Type 0 where
-  pub key : a .key ≡ vol .key
-  pub size : a .size ≡ vol .size
-  pub count : a .count ≡ vol .count
 
 -- three images of n times s, n times 16 and n times s bytes
 pub record Images (s n : ℕ) (v : Triple) : Type 0 where
@@ -109,7 +96,7 @@ module _ (seals : Key → Scheme) where
 
     -- every call takes the volume's key, s and n but one that is or would be refused
     abbrev pub Allowed : Triple → Event → Type 0
-    Allowed v (call a c f) = (refusal seals v a c ≡ none → Takes vol a) × Lent c × CutOf (vol .size) f
+    Allowed v (call a c f) = (refusal seals v a c ≡ none → a .volume ≡ vol) × Lent c × CutOf (vol .size) f
     Allowed v (damage p i b) = (i < vol .count) × Plain (wide (vol .size) p) b
 
     -- each event gets the images as the one before left them

@@ -8,9 +8,10 @@ use lib.ListN.{replicate}
 use Rattle.mode.specs.Sealing.{Triple}
 use Rattle.mode.specs.Scheme.{Place, local, tag, remote}
 use Rattle.verdict.specs.Verdict.{Fits}
-use Rattle.history.specs.Volume.{Args, Call, blank, first, second, third, mend, read, sector, sealing, refusal, mirror}
+use Rattle.answers.specs.Rules.{Args, Volume}
+use Rattle.history.specs.Volume.{Call, blank, first, second, third, mend, read, sector, sealing, refusal, mirror}
 use Rattle.history.specs.Machine.{Held, gone, kept, State}
-use Rattle.history.specs.Power.{Cut, Fate, finished, cut, Event, call, damage, Volume, leavesCall, hold}
+use Rattle.history.specs.Power.{Cut, Fate, finished, cut, Event, call, damage, leavesCall, hold}
 
 module _ (vol : Volume) (v : Triple) (h : State) where
   -- what is held of sector j after an event
@@ -31,7 +32,7 @@ module _ (vol : Volume) (v : Triple) (h : State) where
     -- and no call changes what is held of another sector
     pub others : (a : Args) (c : Call) (f : Fate) (j : ℕ) → (j ≡ a .number → ⊥) → held (call a c f) j ≡ h j
     -- blank
-    pub blank-finished : (a : Args) → Accepted a blank → held (call a blank finished) (a .number) ≡ kept (replicate (a .size) 0) none
+    pub blank-finished : (a : Args) → Accepted a blank → held (call a blank finished) (a .number) ≡ kept (replicate (a .volume .size) 0) none
     pub blank-cut : (a : Args) (k : Cut) → Accepted a blank → held (call a blank (cut k)) (a .number) ≡ gone
     -- first stage, finished or cut
     pub first-kept : (a : Args) (P : List ℕ) (f : Fate) → Accepted a (first P) → (Q : List ℕ) (d : Option Place) → h (a .number) ≡ kept Q d

@@ -1,17 +1,16 @@
 -- The calls on one sector of a volume (document 01, "A volume"): what they refuse, answer and leave. Assumes nothing: these are
 -- definitions, over any scheme; `mirror` is the one that is used.
-use mathlib.Core.Bool.{Bool, not, _&&_}
+use mathlib.Core.Bool.{not, _&&_}
 use mathlib.Core.List.{List, [], _∷_, _++_}
 use mathlib.Core.Option.{Option, none, some}
-use Prim.Native.Nat.{ℕ, _*_}
-use lib.Dec.{eqb, leb}
+use Prim.Native.Nat.{ℕ}
 use lib.ListN.{length, replicate}
 use Rattle.block.specs.Bytes.{part, patch}
 use Rattle.mode.specs.Sealing.{Triple, Key, sealed}
-use Rattle.mode.specs.Scheme.{Place, local, tag, remote, on, wide, isSize, Scheme, scheme}
+use Rattle.mode.specs.Scheme.{Place, local, tag, remote, on, wide, Scheme, scheme}
 use Rattle.verdict.specs.Verdict.{Verdict, fits, judge}
 use Rattle.verdict.specs.Judging.{verdictRefusal, verdictDoubt, verdictPlain}
-use Rattle.verdict.specs.Answers.{keyRules, Rule, rule, firstOf, rulesOf}
+use Rattle.answers.specs.Rules.{Rule, rule, firstOf, rulesOf, Args, lengthRules, sectorRules, isShape}
 use Rattle.history.specs.Answers.{Answer, done, gives, found, reply, isWhole, answerNumber, output}
 
 -- ---- three images
@@ -37,16 +36,6 @@ writeAll s i b (p ∷ ps) v = writeAll s i b ps (write s i p (b p) v)
 
 -- ---- calls
 
--- what every call takes: a key, the size s, the count n and a sector's number
-pub record Args : Type 0 where
-  pub key : Key
-  pub size : ℕ
-  pub count : ℕ
-  pub number : ℕ
-
-abbrev pub args : Key → ℕ → ℕ → ℕ → Args
-args k s n i = record { key = k; size = s; count = n; number = i }
-
 -- the calls on one sector, with what else they take: a stage its plaintext, a read the length of its output
 pub data Call : Type 0 where
   blank : Call
@@ -56,37 +45,17 @@ pub data Call : Type 0 where
 
 -- ---- refusals
 
--- n from 1 to 65,536, two images of n times s bytes, and tags of n times 16
-unfoldable pub shape : ℕ → ℕ → ℕ → ℕ → ℕ → Bool
-shape s n l g r = leb 1 n && (leb n 65536 && (eqb l (n * s) && (eqb r (n * s) && eqb g (n * 16))))
-
-unfoldable pub isShape : ℕ → ℕ → Triple → Bool
-unfolding shape
-isShape s n v = shape s n (length (v .local)) (length (v .tag)) (length (v .remote))
-
--- refusals 1, 2 and 8, of every call; `right` says whether n and the images have the right shape
-abbrev pub volumeRules : Key → ℕ → Bool → List Rule
-volumeRules k s right = keyRules k ++ rule 2 (not (isSize s)) ∷ rule 8 (not right) ∷ []
-
--- and then 9, of a call on one sector
-abbrev pub sectorRules : Bool → Args → List Rule
-sectorRules right a = volumeRules (a .key) (a .size) right ++ rule 9 (leb (a .count) (a .number)) ∷ []
-
--- refusal 3: a plaintext or an output of p bytes that is not s bytes
-abbrev pub lengthRules : ℕ → ℕ → List Rule
-lengthRules p s = rule 3 (not (eqb p s)) ∷ []
-
 abbrev pub lengths : Args → Call → List Rule
 lengths a blank = []
-lengths a (first P) = lengthRules (length P) (a .size)
-lengths a (second P) = lengthRules (length P) (a .size)
-lengths a (third P) = lengthRules (length P) (a .size)
+lengths a (first P) = lengthRules (length P) (a .volume .size)
+lengths a (second P) = lengthRules (length P) (a .volume .size)
+lengths a (third P) = lengthRules (length P) (a .volume .size)
 lengths a mend = []
-lengths a (read o) = lengthRules o (a .size)
+lengths a (read o) = lengthRules o (a .volume .size)
 
 -- all that comes before 6 (read, mend) or 10 (a stage)
 unfoldable pub early : Triple → Args → Call → List Rule
-early v a c = sectorRules (isShape (a .size) (a .count) v) a ++ lengths a c
+early v a c = sectorRules (isShape (a .volume .size) (a .volume .count) v) a ++ lengths a c
 
 -- the refusal of judging, if it refuses
 abbrev pub judgeRules : Verdict → List Rule
@@ -151,12 +120,12 @@ unless (some k) before after = before
 
 -- the call's sector
 abbrev pub sector : Triple → Args → Triple
-sector v a = sectorOf (a .size) (a .number) v
+sector v a = sectorOf (a .volume .size) (a .number) v
 
 module _ (seals : Key → Scheme) where
   -- the sealing that a call uses
   abbrev pub sealing : Args → Scheme
-  sealing a = seals (a .key)
+  sealing a = seals (a .volume .key)
 
   -- the sector's number is its address
   unfoldable pub refusal : Triple → Args → Call → Option ℕ
@@ -169,8 +138,8 @@ module _ (seals : Key → Scheme) where
   -- that it found
   abbrev pub landed : (Triple → Triple → Place → List ℕ) → Triple → Args → Call → Triple
   landed land v a c =
-      let w = writes (a .size) (sealing a) (a .number) (sector v a) c in
-      writeAll (a .size) (a .number) (land (sealing a .sealed (a .number) (w .plain)) (sector v a)) (w .places) v
+      let w = writes (a .volume .size) (sealing a) (a .number) (sector v a) c in
+      writeAll (a .volume .size) (a .number) (land (sealing a .sealed (a .number) (w .plain)) (sector v a)) (w .places) v
 
   -- the images that a call leaves, finished or refused
   unfoldable pub after : Triple → Args → Call → Triple

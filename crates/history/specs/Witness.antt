@@ -8,9 +8,10 @@ use Prim.Native.Nat.{ℕ, _≤_, _<_}
 use Rattle.block.specs.Bytes.{Plain}
 use Rattle.mode.specs.Sealing.{Triple}
 use Rattle.mode.specs.Scheme.{Place, isKey, isSize}
-use Rattle.history.specs.Volume.{Args, first, mend, mirror}
+use Rattle.answers.specs.Rules.{Args, Volume}
+use Rattle.history.specs.Volume.{first, mend, mirror}
 use Rattle.history.specs.Machine.{Held, kept, start}
-use Rattle.history.specs.Power.{Event, Volume, Images, AllAllowed, run, hold}
+use Rattle.history.specs.Power.{Event, Images, AllAllowed, run, hold}
 use Rattle.history.specs.History.{Proper, ProperRead}
 
 -- a key, a size and a count that the calls accept

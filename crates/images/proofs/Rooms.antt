@@ -5,15 +5,18 @@ use native.Mathlib.Omega.{arith}
 use lib.ListN.{length}
 use Rattle.block.proofs.Parts.{part-end}
 use Rattle.mode.specs.Scheme.{local, tag, remote}
-use Rattle.mode.specs.Sealing.{Triple, Key}
-use Rattle.mode.proofs.Sizes.{key-size, size-whole, size-le}
-use Rattle.history.proofs.Refusals.{Common, shape-facts, count-le}
+use Rattle.mode.specs.Sealing.{Triple}
+use Rattle.mode.proofs.Sizes.{size-whole, size-le}
+use Rattle.answers.specs.Rules.{Volume}
+use Rattle.answers.proofs.Passing.{Common}
+use Rattle.answers.proofs.Shapes.{shape-facts, count-le}
 use Rattle.images.specs.Lent.{Room, Within}
 
-pub has-room : (v : Triple) (k : Key) (s n : ℕ) → Common v k s n → (length (k .bytes) ≡ 32) × Room s n (length (v .local)) (length (v .tag)) (length (v .remote))
-has-room v k s n c =
-    let f = shape-facts s n v (c .shape) in
-    (key-size k (c .key), record { blocks = size-whole s (c .size); most = size-le s (c .size); some-sector = f .0; count = count-le s n v (c .shape); local-size = f .1 local; tag-size = f .1 tag; remote-size = f .1 remote })
+pub has-room : (v : Triple) (vol : Volume) → Common v vol → Room (vol .size) (vol .count) (length (v .local)) (length (v .tag)) (length (v .remote))
+has-room v vol c =
+    let s = vol .size in
+    let f = shape-facts s (vol .count) v (c .shape) in
+    record { blocks = size-whole s (c .size); most = size-le s (c .size); some-sector = f .0; count = count-le s (vol .count) v (c .shape); local-size = f .1 local; tag-size = f .1 tag; remote-size = f .1 remote }
 
 -- each sector's parts lie within the images
 pub within-room : (s n i l g r : ℕ) → Room s n l g r → i < n → Within s i l g r

@@ -2,8 +2,7 @@
 use mathlib.Core.Path.{_≡_}
 use mathlib.Core.List.{List}
 use Prim.Native.Nat.{ℕ, _+_, _*_, _<_, _≤_, _%_}
-use Rattle.mode.specs.Sealing.{Triple}
-use Rattle.verdict.specs.Judging.{triple}
+use Rattle.mode.specs.Sealing.{Triple, triple}
 use Rattle.history.specs.Volume.{sectorOf}
 
 -- a sector size s, a count n, and images of l, g and r bytes for n sectors

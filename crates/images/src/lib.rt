@@ -1,9 +1,9 @@
 // A sector's parts of a volume's three images, lent on with a prepared key: to judging, to the sealing of one side, and to comparing.
 use aes::Table;
+use answers::Judged;
 use block::Block;
 use mode::Context;
 use mode::Direction;
-use verdict::Judged;
 ghost use mathlib.Core.Path.{_≡_};
 ghost use Prim.Native.Nat.{_+_, _*_, _<_, _≤_, _%_};
 ghost use lib.ListN.{length};
@@ -15,7 +15,7 @@ ghost use Rattle.mode.specs.Prepared.{Ready};
 ghost use Rattle.mode.specs.declared.Direction.the-variants.{SealLocal};
 ghost use Rattle.mode.specs.Sealing.{pad, blockwise};
 ghost use Rattle.mode.specs.Transforms.{transformed};
-ghost use Rattle.verdict.specs.Answers.{judgedNumber};
+ghost use Rattle.answers.specs.Answers.{judgedNumber};
 ghost use Rattle.verdict.specs.Judging.{judgedBy};
 ghost use Rattle.images.specs.Lent.{Within};
 

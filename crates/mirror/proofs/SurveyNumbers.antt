@@ -9,11 +9,11 @@ use lib.Dec.{ltb}
 use lib.ListN.{length}
 use Rattle.mode.specs.Scheme.{isKey, isSize}
 use Rattle.mode.specs.Sealing.{Triple, Key}
-use Rattle.verdict.specs.Answers.{rule, firstOf}
+use Rattle.answers.specs.Rules.{rule, firstOf, isShape}
 use Rattle.verdict.specs.Verdict.{Verdict}
 use Rattle.history.specs.Answers.{isWhole}
 use Rattle.history.specs.HistoryFrom.{AnyBytes}
-use Rattle.history.specs.Volume.{isShape, mirror}
+use Rattle.history.specs.Volume.{mirror}
 use Rattle.survey.specs.declared.Counts.{Counts}
 use Rattle.survey.specs.Survey.{tally, health, countsOf, written, Report, refused, verdictAt, surveyed, surveyRefusal, surveyOutcome, ByFitting}
 use Rattle.survey.proofs.SurveyFacts.{survey-facts}

@@ -1,15 +1,15 @@
 // The C interface. Each function's contract is that of the call that it names, with the answer as document 01's number: 0 for whole or done,
 // 81, 82 or 83 (hexadecimal) for doubt at local, tag or remote, or the refusal.
+use answers::Done;
+use answers::Judged;
 use survey::Counts;
 use survey::Surveyed;
-use verdict::Done;
-use verdict::Judged;
 ghost use mathlib.Core.Path.{_≡_};
-ghost use Rattle.verdict.specs.Answers.{doneNumber, judgedNumber};
-ghost use Rattle.verdict.specs.Judging.{key, triple};
+ghost use Rattle.mode.specs.Sealing.{keyFrom, triple};
+ghost use Rattle.answers.specs.Answers.{doneNumber, judgedNumber};
+ghost use Rattle.answers.specs.Rules.{args};
 ghost use Rattle.sector.specs.Calls.{sealCall, judgeCall, openCall, rebuildCall, combineCall};
-ghost use Rattle.verdict.specs.Judging as C;
-ghost use Rattle.history.specs.Volume.{args, mirror, outcome, readOutcome};
+ghost use Rattle.history.specs.Volume.{mirror, outcome, readOutcome};
 ghost use Rattle.history.specs.Volume as W;
 ghost use Rattle.survey.specs.Survey.{surveyOutcome};
 ghost use Rattle.mirror.specs.Survey.{numbers, surveyResult};
@@ -17,13 +17,13 @@ ghost use Rattle.mirror.specs.Survey.{numbers, surveyResult};
 fn done_number(d: Done) -> u32
     ensures { λ n. ⌜ n ≡ doneNumber d ⌝ }
 {
-    verdict::done_number(d) as u32
+    answers::done_number(d) as u32
 }
 
 fn judged_number(j: Judged) -> u32
     ensures { λ n. ⌜ n ≡ judgedNumber j ⌝ }
 {
-    verdict::judged_number(j) as u32
+    answers::judged_number(j) as u32
 }
 
 #[no_mangle]
@@ -35,7 +35,7 @@ pub extern "C" fn mirror_seal(
     remote: &mut [u8],
     tag: &mut [u8],
 ) -> u32
-    ensures { λ r. ⌜ sealCall (C.key (now (key .entry))) address (now (plain .entry)) (triple (now (local .entry)) (now (tag .entry)) (now (remote .entry))) ≡ (r, triple (now (local .exit)) (now (tag .exit)) (now (remote .exit))) ⌝ }
+    ensures { λ r. ⌜ sealCall (keyFrom (now (key .entry))) address (now (plain .entry)) (triple (now (local .entry)) (now (tag .entry)) (now (remote .entry))) ≡ (r, triple (now (local .exit)) (now (tag .exit)) (now (remote .exit))) ⌝ }
 {
     done_number(sector::seal(key, address, plain, local, remote, tag))
 }
@@ -49,7 +49,7 @@ pub extern "C" fn mirror_judge(
     remote: &[u8],
     out: &mut [u8],
 ) -> u32
-    ensures { λ r. ⌜ judgeCall (C.key (now (key .entry))) address (triple (now (local .entry)) (now (tag .entry)) (now (remote .entry))) (now (out .entry)) ≡ (r, now (out .exit)) ⌝ }
+    ensures { λ r. ⌜ judgeCall (keyFrom (now (key .entry))) address (triple (now (local .entry)) (now (tag .entry)) (now (remote .entry))) (now (out .entry)) ≡ (r, now (out .exit)) ⌝ }
 {
     judged_number(sector::judge(key, address, local, tag, remote, out))
 }
@@ -63,7 +63,7 @@ pub extern "C" fn mirror_open(
     tag: &[u8],
     out: &mut [u8],
 ) -> u32
-    ensures { λ r. ⌜ openCall (C.key (now (key .entry))) address side (now (sector .entry)) (now (tag .entry)) (now (out .entry)) ≡ (r, now (out .exit)) ⌝ }
+    ensures { λ r. ⌜ openCall (keyFrom (now (key .entry))) address side (now (sector .entry)) (now (tag .entry)) (now (out .entry)) ≡ (r, now (out .exit)) ⌝ }
 {
     done_number(sector::open(key, address, side, sector, tag, out))
 }
@@ -77,7 +77,7 @@ pub extern "C" fn mirror_rebuild(
     tag: &[u8],
     out: &mut [u8],
 ) -> u32
-    ensures { λ r. ⌜ rebuildCall (C.key (now (key .entry))) address side (now (sector .entry)) (now (tag .entry)) (now (out .entry)) ≡ (r, now (out .exit)) ⌝ }
+    ensures { λ r. ⌜ rebuildCall (keyFrom (now (key .entry))) address side (now (sector .entry)) (now (tag .entry)) (now (out .entry)) ≡ (r, now (out .exit)) ⌝ }
 {
     done_number(sector::rebuild(key, address, side, sector, tag, out))
 }
@@ -99,7 +99,7 @@ pub extern "C" fn mirror_blank(
     tags: &mut [u8],
     remote: &mut [u8],
 ) -> u32
-    ensures { λ r. ⌜ outcome mirror (triple (now (local .entry)) (now (tags .entry)) (now (remote .entry))) (args (C.key (now (key .entry))) s n number) W.blank ≡ (r, triple (now (local .exit)) (now (tags .exit)) (now (remote .exit))) ⌝ }
+    ensures { λ r. ⌜ outcome mirror (triple (now (local .entry)) (now (tags .entry)) (now (remote .entry))) (args (keyFrom (now (key .entry))) s n number) W.blank ≡ (r, triple (now (local .exit)) (now (tags .exit)) (now (remote .exit))) ⌝ }
 {
     done_number(volume::blank(key, s, n, number, local, tags, remote))
 }
@@ -115,7 +115,7 @@ pub extern "C" fn mirror_first_stage(
     tags: &[u8],
     remote: &[u8],
 ) -> u32
-    ensures { λ r. ⌜ outcome mirror (triple (now (local .entry)) (now (tags .entry)) (now (remote .entry))) (args (C.key (now (key .entry))) s n number) (W.first (now (plain .entry))) ≡ (r, triple (now (local .exit)) (now (tags .entry)) (now (remote .entry))) ⌝ }
+    ensures { λ r. ⌜ outcome mirror (triple (now (local .entry)) (now (tags .entry)) (now (remote .entry))) (args (keyFrom (now (key .entry))) s n number) (W.first (now (plain .entry))) ≡ (r, triple (now (local .exit)) (now (tags .entry)) (now (remote .entry))) ⌝ }
 {
     done_number(volume::first_stage(key, s, n, number, plain, local, tags, remote))
 }
@@ -131,7 +131,7 @@ pub extern "C" fn mirror_second_stage(
     tags: &mut [u8],
     remote: &[u8],
 ) -> u32
-    ensures { λ r. ⌜ outcome mirror (triple (now (local .entry)) (now (tags .entry)) (now (remote .entry))) (args (C.key (now (key .entry))) s n number) (W.second (now (plain .entry))) ≡ (r, triple (now (local .entry)) (now (tags .exit)) (now (remote .entry))) ⌝ }
+    ensures { λ r. ⌜ outcome mirror (triple (now (local .entry)) (now (tags .entry)) (now (remote .entry))) (args (keyFrom (now (key .entry))) s n number) (W.second (now (plain .entry))) ≡ (r, triple (now (local .entry)) (now (tags .exit)) (now (remote .entry))) ⌝ }
 {
     done_number(volume::second_stage(key, s, n, number, plain, local, tags, remote))
 }
@@ -147,7 +147,7 @@ pub extern "C" fn mirror_third_stage(
     tags: &[u8],
     remote: &mut [u8],
 ) -> u32
-    ensures { λ r. ⌜ outcome mirror (triple (now (local .entry)) (now (tags .entry)) (now (remote .entry))) (args (C.key (now (key .entry))) s n number) (W.third (now (plain .entry))) ≡ (r, triple (now (local .entry)) (now (tags .entry)) (now (remote .exit))) ⌝ }
+    ensures { λ r. ⌜ outcome mirror (triple (now (local .entry)) (now (tags .entry)) (now (remote .entry))) (args (keyFrom (now (key .entry))) s n number) (W.third (now (plain .entry))) ≡ (r, triple (now (local .entry)) (now (tags .entry)) (now (remote .exit))) ⌝ }
 {
     done_number(volume::third_stage(key, s, n, number, plain, local, tags, remote))
 }
@@ -163,7 +163,7 @@ pub extern "C" fn mirror_read(
     remote: &[u8],
     out: &mut [u8],
 ) -> u32
-    ensures { λ r. ⌜ readOutcome mirror (triple (now (local .entry)) (now (tags .entry)) (now (remote .entry))) (args (C.key (now (key .entry))) s n number) (now (out .entry)) ≡ (r, now (out .exit)) ⌝ }
+    ensures { λ r. ⌜ readOutcome mirror (triple (now (local .entry)) (now (tags .entry)) (now (remote .entry))) (args (keyFrom (now (key .entry))) s n number) (now (out .entry)) ≡ (r, now (out .exit)) ⌝ }
 {
     judged_number(volume::read(key, s, n, number, local, tags, remote, out))
 }
@@ -178,7 +178,7 @@ pub extern "C" fn mirror_mend(
     tags: &mut [u8],
     remote: &mut [u8],
 ) -> u32
-    ensures { λ r. ⌜ outcome mirror (triple (now (local .entry)) (now (tags .entry)) (now (remote .entry))) (args (C.key (now (key .entry))) s n number) W.mend ≡ (r, triple (now (local .exit)) (now (tags .exit)) (now (remote .exit))) ⌝ }
+    ensures { λ r. ⌜ outcome mirror (triple (now (local .entry)) (now (tags .entry)) (now (remote .entry))) (args (keyFrom (now (key .entry))) s n number) W.mend ≡ (r, triple (now (local .exit)) (now (tags .exit)) (now (remote .exit))) ⌝ }
 {
     judged_number(volume::mend(key, s, n, number, local, tags, remote))
 }
@@ -207,7 +207,7 @@ pub extern "C" fn mirror_survey(
     list: &mut [u32],
     counts: &mut [u64; 5],
 ) -> u32
-    ensures { λ r. ⌜ surveyResult (surveyOutcome (triple (now (local .entry)) (now (tags .entry)) (now (remote .entry))) (C.key (now (key .entry))) s n (now (list .entry))) (now (counts .entry)) ≡ (r, (now (counts .exit), now (list .exit))) ⌝ }
+    ensures { λ r. ⌜ surveyResult (surveyOutcome (triple (now (local .entry)) (now (tags .entry)) (now (remote .entry))) (keyFrom (now (key .entry))) s n (now (list .entry))) (now (counts .entry)) ≡ (r, (now (counts .exit), now (list .exit))) ⌝ }
 {
     let surveyed = survey::survey(key, s, n, local, tags, remote, list);
     match surveyed {
@@ -215,6 +215,6 @@ pub extern "C" fn mirror_survey(
             *counts = count_numbers(c);
             0
         }
-        Surveyed::Refused(f) => verdict::refusal_number(f) as u32,
+        Surveyed::Refused(f) => answers::refusal_number(f) as u32,
     }
 }

@@ -1,5 +1,6 @@
 -- The round keys of a key of 32 bytes. Assumes nothing.
 use mathlib.Core.Path.{_≡_, ap, _∙_}
+use mathlib.Core.Bool.{true}
 use Prim.Native.Nat.{ℕ, _+_, _/_}
 use native.Mathlib.Omega.{arith}
 use lib.Dec.{lit≤}
@@ -7,12 +8,14 @@ use lib.ListN.{length, length-drop, length-take}
 use Rattle.aes.specs.Aes.{expand, roundsOf}
 use Rattle.aes.proofs.Facts.{aes-facts}
 use Rattle.mode.specs.Sealing.{Key, cipherKey, roundKeys}
+use Rattle.mode.specs.Scheme.{isKey}
 use Rattle.mode.specs.KeyFacts.{KeyFacts}
+use Rattle.mode.proofs.Sizes.{key-size}
 
-module _ (k : Key) (size : length (k .bytes) ≡ 32) where
+module _ (k : Key) (keyed : isKey k ≡ true) where
   sixteen : length (cipherKey k) ≡ 16
   unfolding cipherKey
-  sixteen = simp (length-drop, length-take) (omega arith)
+  sixteen = simp (length-drop, length-take) (omega (arith, key-size k keyed))
 
   aes-128 : roundKeys k ≡ expand 4 10 (cipherKey k)
   unfolding roundKeys

@@ -168,7 +168,7 @@ pub pad-is : (w : List ℕ) (g j : ℕ) {e x m b : ℕ} → e ≡ cipherNumber w
 unfolding pad
 pad-is w g j e x m b = e ∙ ap (cipherNumber w) (x ∙ ap (bitXor g) (m ∙ ap (timesX j) b))
 
--- ---- what is worked out once of a key of 32 bytes
+-- ---- what is worked out once of a key
 
 module _ (k : List ℕ) (size : length k ≡ 32) where
   abbrev rest : List ℕ

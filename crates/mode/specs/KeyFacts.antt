@@ -1,12 +1,14 @@
--- What the definitions of Sealing.antt come to for document 01's keys of 32 bytes: one statement, proved as `key-facts`.
+-- What the definitions of Sealing.antt come to for document 01's keys: one statement, proved as `key-facts`.
 use mathlib.Core.Path.{_≡_}
+use mathlib.Core.Bool.{true}
 use lib.ListN.{length}
 use Rattle.aes.specs.Aes.{expand, roundsOf}
 use Rattle.mode.specs.Sealing.{Key, cipherKey, roundKeys}
+use Rattle.mode.specs.Scheme.{isKey}
 
 pub record KeyFacts : Type 0 where
   -- K has 16 bytes
-  pub sixteen : (k : Key) → length (k .bytes) ≡ 32 → length (cipherKey k) ≡ 16
+  pub sixteen : (k : Key) → isKey k ≡ true → length (cipherKey k) ≡ 16
   -- its round keys are those of AES-128, four words expanded for ten rounds, and the cipher does so many with them
-  pub aes-128 : (k : Key) → length (k .bytes) ≡ 32 → roundKeys k ≡ expand 4 10 (cipherKey k)
-  pub ten : (k : Key) → length (k .bytes) ≡ 32 → roundsOf (roundKeys k) ≡ 10
+  pub aes-128 : (k : Key) → isKey k ≡ true → roundKeys k ≡ expand 4 10 (cipherKey k)
+  pub ten : (k : Key) → isKey k ≡ true → roundsOf (roundKeys k) ≡ 10

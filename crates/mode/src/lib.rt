@@ -2,6 +2,7 @@
 use aes::Table;
 use block::Block;
 ghost use mathlib.Core.Path.{_≡_};
+ghost use mathlib.Core.Bool.{true};
 ghost use Prim.Native.Nat.{_≤_, _%_};
 ghost use lib.ListN.{length};
 ghost use Rattle.block.specs.Bytes.{blocksOf};
@@ -9,7 +10,8 @@ ghost use Rattle.block.specs.Value.{value};
 ghost use Rattle.aes.specs.Aes.{cipherNumber};
 ghost use Rattle.aes.specs.Columns.{roundTable};
 ghost use Rattle.hash.specs.Powers.{keyOf};
-ghost use Rattle.mode.specs.Sealing.{pad, blockwise, tagBlock, sides};
+ghost use Rattle.mode.specs.Scheme.{isKey};
+ghost use Rattle.mode.specs.Sealing.{keyFrom, pad, blockwise, tagBlock, sides};
 ghost use Rattle.mode.specs.Prepared.{PreparedFor, Ready};
 ghost use Rattle.mode.specs.Transforms.{transformed};
 
@@ -37,7 +39,7 @@ pub struct Prepared {
 }
 
 pub fn prepare(t: &Table, key: &[u8]) -> Prepared
-    requires { ⌜ (now t ≡ roundTable) × (length (now key) ≡ 32) ⌝ }
+    requires { ⌜ (now t ≡ roundTable) × (isKey (keyFrom (now key)) ≡ true) ⌝ }
     ensures { λ r. ⌜ PreparedFor (now (key .entry)) r ⌝ }
 {
     let mut w = [0u32; 44];

@@ -132,7 +132,7 @@ fn fill(before: &[u8], out: &mut [u8]) -> bool {
 }
 
 fn seal(frame: &[u8], local: &mut [u8], remote: &mut [u8], tag: &mut [u8]) -> u8 {
-    verdict::done_number(sector::seal(
+    answers::done_number(sector::seal(
         field(frame, 0),
         address(frame),
         field(frame, 2),
@@ -143,7 +143,7 @@ fn seal(frame: &[u8], local: &mut [u8], remote: &mut [u8], tag: &mut [u8]) -> u8
 }
 
 fn judge(frame: &[u8], out: &mut [u8]) -> u8 {
-    verdict::judged_number(sector::judge(
+    answers::judged_number(sector::judge(
         field(frame, 0),
         address(frame),
         field(frame, 2),
@@ -154,7 +154,7 @@ fn judge(frame: &[u8], out: &mut [u8]) -> u8 {
 }
 
 fn open(frame: &[u8], out: &mut [u8]) -> u8 {
-    verdict::done_number(sector::open(
+    answers::done_number(sector::open(
         field(frame, 0),
         address(frame),
         side(frame),
@@ -165,7 +165,7 @@ fn open(frame: &[u8], out: &mut [u8]) -> u8 {
 }
 
 fn rebuild(frame: &[u8], out: &mut [u8]) -> u8 {
-    verdict::done_number(sector::rebuild(
+    answers::done_number(sector::rebuild(
         field(frame, 0),
         address(frame),
         side(frame),
@@ -176,7 +176,7 @@ fn rebuild(frame: &[u8], out: &mut [u8]) -> u8 {
 }
 
 fn combine(frame: &[u8], out: &mut [u8]) -> u8 {
-    verdict::done_number(sector::combine(field(frame, 0), field(frame, 1), out))
+    answers::done_number(sector::combine(field(frame, 0), field(frame, 1), out))
 }
 
 // The answer's number of a call that writes one slice.

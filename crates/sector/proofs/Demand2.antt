@@ -1,25 +1,26 @@
 -- Demand 2. Assumes nothing.
 use mathlib.Core.Path.{_≡_, refl, sym, ap, subst, _∙_}
 use mathlib.Core.Logic.{_↔_}
-use mathlib.Core.Bool.{true}
-use mathlib.Core.List.{List, _++_}
+use mathlib.Core.Bool.{true, _||_}
+use mathlib.Core.List.{List}
 use mathlib.Core.Option.{Option, none, some}
 use Prim.Native.Nat.{ℕ}
 use native.Mathlib.Omega.{arith}
+use lib.Dec.{eqb}
 use lib.ListN.{length}
-use borrow.Author.Tests.{eq-eqb}
 use Rattle.block.specs.Bytes.{Plain}
 use Rattle.mode.specs.Sealing.{Key, Triple, tweak, sealed}
 use Rattle.mode.specs.Scheme.{Place, local, tag, remote, on, wide, Sector, isKey, isSize, Scheme, Lawful, dcm, scheme}
 use Rattle.mode.proofs.Laws.{sound}
-use Rattle.verdict.specs.Answers.{firstOf, keyRules}
+use Rattle.answers.specs.Rules.{firstOf, openRules}
+use Rattle.answers.proofs.Passing.{sides-pass, parts-pass, open-pass}
 use Rattle.verdict.specs.Judging.{verdictOutcome}
 use Rattle.verdict.specs.Verdict.{Fits, Verdict, whole, doubtful, lost, clashing, Means, judge, Side, localSide, remoteSide, placeOf, otherSide, sideOf, opened}
 use Rattle.verdict.specs.Verdict as W
 use Rattle.verdict.proofs.JudgeExact.{FitsBut, but-local, but-tag, but-remote, one-for-a-pair, judge-exact}
 use Rattle.verdict.proofs.Numbers.{outcome-one}
 use Rattle.verdict.proofs.OpenExact.{open-plain, opened-none, open-exact}
-use Rattle.sector.specs.Calls.{sizeRules, sideRules, openOutcome, sealCall, judgeCall, openCall, rebuildCall, combineCall}
+use Rattle.sector.specs.Calls.{openOutcome, sealCall, judgeCall, openCall, rebuildCall, combineCall}
 use Rattle.sector.specs.Demand2.{sideNumber, SealsTo, Judges, Opens, Rebuilds, Demand2-whole, SizeBounds}
 use Rattle.sector.proofs.Opening.{outcome-some, outcome-none}
 use Rattle.sector.proofs.Public.{settle-none, seal-passes, judge-passes, combine-passes}
@@ -39,18 +40,9 @@ side-back : (d : Side) → sideOf (sideNumber d) ≡ d
 side-back localSide = refl
 side-back remoteSide = refl
 
--- ---- lengths that pass the checks
-
-sizes-pass : (s x y g : ℕ) → isSize s ≡ true → x ≡ s → y ≡ s → g ≡ 16 → firstOf (sizeRules s x y g) ≡ none
-sizes-pass s x y g es ex ey eg = simp (es, eq-eqb x s ex, eq-eqb y s ey, eq-eqb g 16 eg)
-
-keyed-pass : (k : Key) (s x y g : ℕ) → isKey k ≡ true → isSize s ≡ true → x ≡ s → y ≡ s → g ≡ 16 → firstOf (keyRules k ++ sizeRules s x y g) ≡ none
-keyed-pass k s x y g ek es ex ey eg = simp (ek, es, eq-eqb x s ex, eq-eqb y s ey, eq-eqb g 16 eg)
-
-sided-pass : (k : Key) (s x y g : ℕ) (d : Side) → isKey k ≡ true → isSize s ≡ true → x ≡ s → y ≡ s → g ≡ 16
-    → firstOf (keyRules k ++ (sizeRules s x y g ++ sideRules (sideNumber d))) ≡ none
-sided-pass k s x y g localSide ek es ex ey eg = simp (ek, es, eq-eqb x s ex, eq-eqb y s ey, eq-eqb g 16 eg)
-sided-pass k s x y g remoteSide ek es ex ey eg = simp (ek, es, eq-eqb x s ex, eq-eqb y s ey, eq-eqb g 16 eg)
+side-right : (d : Side) → (eqb (sideNumber d) 0 || eqb (sideNumber d) 1) ≡ true
+side-right localSide = refl
+side-right remoteSide = refl
 
 module _ (k : Key) (s : ℕ) (ek : isKey k ≡ true) (es : isSize s ≡ true) where
   abbrev S : Scheme
@@ -84,7 +76,7 @@ module _ (k : Key) (s : ℕ) (ek : isKey k ≡ true) (es : isSize s ≡ true) wh
   seals address P out plain long =
       let e = plain .long in
       seal-passes (k .bytes) address P out
-      (keyed-pass k (length P) (length (out .local)) (length (out .remote)) (length (out .tag)) ek (ap isSize e ∙ es) (long local ∙ sym e) (long remote ∙ sym e) (long tag))
+      (parts-pass k (length P) (length (out .local)) (length (out .remote)) (length (out .tag)) ek (ap isSize e ∙ es) (long local ∙ sym e) (long remote ∙ sym e) (long tag))
       refl refl
 
   -- ---- judge
@@ -94,7 +86,7 @@ module _ (k : Key) (s : ℕ) (ek : isKey k ≡ true) (es : isSize s ≡ true) wh
     judge-is =
         let e = σ .places local .long in
         judge-passes (k .bytes) address t out
-        (keyed-pass k (length (t .local)) (length (t .remote)) (length out) (length (t .tag)) ek (ap isSize e ∙ es) (σ .places remote .long ∙ sym e) (size ∙ sym e) (σ .places tag .long))
+        (parts-pass k (length (t .local)) (length (t .remote)) (length out) (length (t .tag)) ek (ap isSize e ∙ es) (σ .places remote .long ∙ sym e) (size ∙ sym e) (σ .places tag .long))
         refl refl
 
     judged : (w : Verdict) → (judgeCall k address t out ≡ verdictOutcome w out) ↔ Means s S (tweak address) t w
@@ -142,9 +134,9 @@ module _ (k : Key) (s : ℕ) (ek : isKey k ≡ true) (es : isSize s ≡ true) wh
       refuses : (a ≡ (5, out)) ↔ ((P : List ℕ) → Sealed P → ⊥)
       refuses = (λ e. none-found .0 (none-says f out result (sym is ∙ e)), λ never. is ∙ outcome-none f out (none-found .1 never))
 
-    passes : firstOf (keyRules k ++ (sizeRules (length x) (length out) (length out) (length g) ++ sideRules (sideNumber d))) ≡ none
+    passes : firstOf (openRules k (length x) (length out) (length g) (sideNumber d)) ≡ none
     passes =
-        let e = plain-x .long in sided-pass k (length x) (length out) (length out) (length g) d ek (ap isSize e ∙ es) (size ∙ sym e) (size ∙ sym e) (plain-g .long)
+        let e = plain-x .long in open-pass k (length x) (length out) (length g) (sideNumber d) ek (ap isSize e ∙ es) (size ∙ sym e) (plain-g .long) (side-right d)
 
     abbrev itself : List ℕ → List ℕ
     itself P = P
@@ -205,7 +197,7 @@ module _ (k : Key) (s : ℕ) (ek : isKey k ≡ true) (es : isSize s ≡ true) wh
     combines-sealed =
         let e = long local .long in
         combine-passes (t .local) (t .remote) out
-        (sizes-pass (length (t .local)) (length (t .remote)) (length out) 16 (ap isSize e ∙ es) (long remote .long ∙ sym e) (size ∙ sym e) refl)
+        (sides-pass (length (t .local)) (length (t .remote)) (length out) (ap isSize e ∙ es) (long remote .long ∙ sym e) (size ∙ sym e))
         refl (sym (lawful .sum (tweak address) P plain))
 
 pub demand-2 : Demand2-whole

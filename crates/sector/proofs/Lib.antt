@@ -1,4 +1,3 @@
-pub mod Checks
 pub mod Prepared
 pub mod Public
 pub mod Opening

@@ -19,10 +19,9 @@ use Rattle.aes.proofs.Bounds.{cipher-lt}
 use Rattle.aes.proofs.Facts.{aes-facts}
 use Rattle.hash.specs.Brw.{brw}
 use Rattle.hash.proofs.BrwLaws.{hash-facts}
-use Rattle.mode.specs.Sealing.{Key, Triple, hashKey, roundKeys, tweak, tagBlock, pad, localBlock, remoteBlock, sides, sealedBy}
+use Rattle.mode.specs.Sealing.{Key, Triple, hashKey, roundKeys, tweak, tagBlock, pad, localBlock, remoteBlock, sides, sealedBy, triple}
 use Rattle.mode.specs.Scheme.{Place, local, tag, remote, on, wide, Sector, Scheme, Lawful, dcm, scheme}
 use Rattle.mode.proofs.Laws.{dcm-lawful}
-use Rattle.verdict.specs.Judging.{triple}
 use Rattle.sector.specs.Marked.{first, second, Clash, Marked}
 use Rattle.verdict.specs.Verdict.{clashing, judge}
 use Rattle.verdict.proofs.JudgeExact.{but-remote, but-local, but-two, judge-exact}

@@ -1,7 +1,7 @@
 -- The answer of opening a side, from what the code has worked out, for open and rebuild alike. Assumes nothing.
 use mathlib.Core.Path.{_≡_, sym, ap, ap₂, _∙_}
 use mathlib.Core.Bool.{Bool, true, false}
-use mathlib.Core.List.{List, _++_}
+use mathlib.Core.List.{List}
 use mathlib.Core.Option.{Option, none, some}
 use Prim.Native.Nat.{ℕ}
 use lib.ListN.{length, take, drop}
@@ -13,24 +13,24 @@ use Rattle.mode.specs.declared.Context.{Context}
 use Rattle.mode.specs.declared.Direction.{Direction}
 use Rattle.mode.specs.declared.Prepared.{Prepared}
 use Rattle.mode.specs.Prepared.{PreparedFor, Ready}
-use Rattle.mode.specs.Scheme.{Scheme, scheme}
-use Rattle.mode.specs.Sealing.{tweak, blockwise, pad}
+use Rattle.mode.specs.Scheme.{isKey, Scheme, scheme}
+use Rattle.mode.specs.Sealing.{tweak, blockwise, pad, keyFrom}
 use Rattle.mode.specs.Transforms.{transformed}
-use Rattle.verdict.specs.declared.Done.{Done}
-use Rattle.verdict.specs.declared.Done.the-variants as D
-use Rattle.verdict.specs.declared.Refusal.{Refusal}
-use Rattle.verdict.specs.Answers.{firstOf, keyRules, refusalNumber, doneOption}
-use Rattle.verdict.specs.Judging.{key, schemeOf, sealingOf}
+use Rattle.answers.specs.declared.Done.{Done}
+use Rattle.answers.specs.declared.Done.the-variants as D
+use Rattle.answers.specs.declared.Refusal.{Refusal}
+use Rattle.answers.specs.Answers.{refusalNumber, doneOption}
+use Rattle.answers.specs.Rules.{firstOf, openRules}
+use Rattle.answers.specs.Passing.{Sizes}
+use Rattle.verdict.specs.Judging.{schemeOf, sealingOf}
 use Rattle.verdict.specs.Verdict.{otherSide, sideOf, openSide}
 use Rattle.verdict.proofs.Opened.{Side-known, found, missing, rebuilt}
 use Rattle.verdict.proofs.Prepared.{ContextOf, scheme-is, ready-of}
-use Rattle.verdict.proofs.Rules.{none-left}
+use Rattle.answers.proofs.Passing.{open-passed}
 use Rattle.sector.specs.declared.Wanted.{Wanted}
 use Rattle.sector.specs.declared.Wanted.the-variants.{Plaintext, Opposite}
-use Rattle.sector.specs.Calls.{sizeRules, sideRules, openOutcome}
+use Rattle.sector.specs.Calls.{openOutcome}
 use Rattle.sector.specs.Opening.{wantedOf, openedAs, openAs}
-use Rattle.sector.specs.Sizes.{Sizes}
-use Rattle.sector.proofs.Checks.{accepted}
 use Rattle.sector.proofs.Public.{settle-some, settle-none}
 
 -- ---- the outcome, from what is found
@@ -65,20 +65,18 @@ module _ (k : List ℕ) (r : Prepared) (e : PreparedFor k r) (m : Context) (addr
   opening-ready et c ez = (ready-of k r e m address em et, record { blocks = c .blocks; most = c .most; first = c .first; second = ez; tag-size = c .tag-size })
 
   pub opened-is : (h : Wanted) (d : ℕ) (x g out : List ℕ) {a : ℕ × List ℕ}
-      → openedAs h (schemeOf (r .words) (r .powers)) (value (m .tweak)) d x g out ≡ a → openedAs h (scheme (key k)) (tweak address) d x g out ≡ a
+      → openedAs h (schemeOf (r .words) (r .powers)) (value (m .tweak)) d x g out ≡ a → openedAs h (scheme (keyFrom k)) (tweak address) d x g out ≡ a
   opened-is h d x g out ea = sym (ap₂ (λ (S : Scheme) (T : ℕ). openedAs h S T d x g out) (scheme-is k r e) (em .2)) ∙ ea
 
 -- ---- with the checks, of which c is the answer
 
 module _ (k : List ℕ) (address d : ℕ) (x g out : List ℕ) {c : Done}
-    (checked : firstOf (keyRules (key k) ++ (sizeRules (length x) (length out) (length out) (length g) ++ sideRules d)) ≡ doneOption c) where
-  pub open-accepted : c ≡ D.Done → (length k ≡ 32) × Sizes (length x) (length out) (length out) (length g)
-  open-accepted ok =
-      accepted k (length x) (length out) (length out) (length g)
-      (none-left (sideRules d) (keyRules (key k) ++ sizeRules (length x) (length out) (length out) (length g)) (checked ∙ ap doneOption ok))
+    (checked : firstOf (openRules (keyFrom k) (length x) (length out) (length g) d) ≡ doneOption c) where
+  pub open-accepted : c ≡ D.Done → (isKey (keyFrom k) ≡ true) × Sizes (length x) (length out) (length out) (length g)
+  open-accepted ok = open-passed (keyFrom k) (length x) (length out) (length g) d (checked ∙ ap doneOption ok)
 
-  pub open-passes : (h : Wanted) → c ≡ D.Done → {a : ℕ × List ℕ} → openedAs h (scheme (key k)) (tweak address) d x g out ≡ a → openAs h (key k) address d x g out ≡ a
-  open-passes h ok ea = settle-none (openedAs h (scheme (key k)) (tweak address) d x g out) out (checked ∙ ap doneOption ok) ∙ ea
+  pub open-passes : (h : Wanted) → c ≡ D.Done → {a : ℕ × List ℕ} → openedAs h (scheme (keyFrom k)) (tweak address) d x g out ≡ a → openAs h (keyFrom k) address d x g out ≡ a
+  open-passes h ok ea = settle-none (openedAs h (scheme (keyFrom k)) (tweak address) d x g out) out (checked ∙ ap doneOption ok) ∙ ea
 
-  pub open-refuses : (h : Wanted) {f : Refusal} → c ≡ D.Refused f → openAs h (key k) address d x g out ≡ (refusalNumber f, out)
-  open-refuses h refused = settle-some (openedAs h (scheme (key k)) (tweak address) d x g out) out (checked ∙ ap doneOption refused)
+  pub open-refuses : (h : Wanted) {f : Refusal} → c ≡ D.Refused f → openAs h (keyFrom k) address d x g out ≡ (refusalNumber f, out)
+  open-refuses h refused = settle-some (openedAs h (scheme (keyFrom k)) (tweak address) d x g out) out (checked ∙ ap doneOption refused)

@@ -13,21 +13,21 @@ use Rattle.mode.specs.declared.Context.{Context}
 use Rattle.mode.specs.declared.Prepared.{Prepared}
 use Rattle.mode.specs.Prepared.{PreparedFor}
 use Rattle.mode.specs.Scheme.{Scheme, dcm, scheme}
-use Rattle.mode.specs.Sealing.{tweak, tagBlock, sides, sealedBy, sealed}
-use Rattle.verdict.specs.Judging.{key, triple, schemeOf, verdictOutcome, Lent, judgedBy}
+use Rattle.mode.specs.Sealing.{tweak, tagBlock, sides, sealedBy, sealed, keyFrom, triple}
+use Rattle.answers.specs.Passing.{Sizes}
+use Rattle.verdict.specs.Judging.{schemeOf, verdictOutcome, Lent, judgedBy}
 use Rattle.verdict.specs.Verdict.{judge}
 use Rattle.verdict.proofs.Prepared.{ContextOf, scheme-is, ready-of}
-use Rattle.sector.specs.Sizes.{Sizes}
 
 module _ (k : List ℕ) (r : Prepared) (e : PreparedFor k r) (m : Context) (address : ℕ) (em : ContextOf r m address) where
   pub lent-of : {t : List ℕ} → t ≡ roundTable → (l g x out : List ℕ) → Sizes (length l) (length x) (length out) (length g) → Lent t (r .words) (r .powers) m l g x out
   lent-of et l g x out z = record { ready = ready-of k r e m address em et; blocks = z .blocks; most = z .most; tag-size = z .tag-size; remote-size = z .first; out-size = z .second }
 
-  pub judged-is : (l g x out : List ℕ) {a : ℕ × List ℕ} → judgedBy (r .words) (r .powers) m l g x out ≡ a → verdictOutcome (judge (scheme (key k)) (tweak address) (triple l g x)) out ≡ a
+  pub judged-is : (l g x out : List ℕ) {a : ℕ × List ℕ} → judgedBy (r .words) (r .powers) m l g x out ≡ a → verdictOutcome (judge (scheme (keyFrom k)) (tweak address) (triple l g x)) out ≡ a
   judged-is l g x out ea = sym (ap₂ (λ (S : Scheme) (T : ℕ). verdictOutcome (judge S T (triple l g x)) out) (scheme-is k r e) (em .2)) ∙ ea
 
   -- sealing with the prepared key
-  pub scheme-sealed : (P : List ℕ) → schemeOf (r .words) (r .powers) .sealed (value (m .tweak)) P ≡ sealed (key k) address P
+  pub scheme-sealed : (P : List ℕ) → schemeOf (r .words) (r .powers) .sealed (value (m .tweak)) P ≡ sealed (keyFrom k) address P
   unfolding sealed scheme dcm
   scheme-sealed P = ap₂ (λ (S : Scheme) (T : ℕ). S .sealed T P) (scheme-is k r e) (em .2)
 

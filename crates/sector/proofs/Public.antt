@@ -1,19 +1,20 @@
 -- The calls' answers where the checks refuse, and where they pass. Assumes nothing.
 use mathlib.Core.Path.{_≡_, sym, ap, _∙_}
-use mathlib.Core.List.{List, _++_}
+use mathlib.Core.List.{List}
 use mathlib.Core.Option.{Option, none, some}
 use Prim.Native.Nat.{ℕ}
 use lib.ListN.{length}
 use Rattle.block.specs.Bytes.{xorBytes}
 use Rattle.mode.specs.Scheme.{scheme}
-use Rattle.mode.specs.Sealing.{Triple, tweak, sealed}
-use Rattle.verdict.specs.declared.Done.{Done}
-use Rattle.verdict.specs.declared.Done.the-variants as D
-use Rattle.verdict.specs.declared.Refusal.{Refusal}
-use Rattle.verdict.specs.Answers.{firstOf, keyRules, settle, refusalNumber, doneOption}
-use Rattle.verdict.specs.Judging.{key, verdictOutcome}
+use Rattle.mode.specs.Sealing.{Triple, tweak, sealed, keyFrom}
+use Rattle.answers.specs.declared.Done.{Done}
+use Rattle.answers.specs.declared.Done.the-variants as D
+use Rattle.answers.specs.declared.Refusal.{Refusal}
+use Rattle.answers.specs.Answers.{refusalNumber, doneOption}
+use Rattle.answers.specs.Rules.{firstOf, settle, sidesRules, partsRules}
+use Rattle.verdict.specs.Judging.{verdictOutcome}
 use Rattle.verdict.specs.Verdict.{judge}
-use Rattle.sector.specs.Calls.{sizeRules, sealCall, judgeCall, combineCall}
+use Rattle.sector.specs.Calls.{sealCall, judgeCall, combineCall}
 
 pub settle-some : {A : Type 0} {o : Option ℕ} {n : ℕ} (after : ℕ × A) (before : A) → o ≡ some n → settle o after before ≡ (n, before)
 settle-some after before e = ap (λ o. settle o after before) e
@@ -24,26 +25,26 @@ settle-none after before e = ap (λ o. settle o after before) e
 -- ---- c is the answer of the checks
 
 module _ (k : List ℕ) (address : ℕ) (t : Triple) (out : List ℕ) {c : Done}
-    (checked : firstOf (keyRules (key k) ++ sizeRules (length (t .local)) (length (t .remote)) (length out) (length (t .tag))) ≡ doneOption c) where
-  pub judge-passes : c ≡ D.Done → {a : ℕ × List ℕ} → verdictOutcome (judge (scheme (key k)) (tweak address) t) out ≡ a → judgeCall (key k) address t out ≡ a
+    (checked : firstOf (partsRules (keyFrom k) (length (t .local)) (length (t .remote)) (length out) (length (t .tag))) ≡ doneOption c) where
+  pub judge-passes : c ≡ D.Done → {a : ℕ × List ℕ} → verdictOutcome (judge (scheme (keyFrom k)) (tweak address) t) out ≡ a → judgeCall (keyFrom k) address t out ≡ a
   unfolding judgeCall
-  judge-passes ok ea = settle-none (verdictOutcome (judge (scheme (key k)) (tweak address) t) out) out (checked ∙ ap doneOption ok) ∙ ea
+  judge-passes ok ea = settle-none (verdictOutcome (judge (scheme (keyFrom k)) (tweak address) t) out) out (checked ∙ ap doneOption ok) ∙ ea
 
-  pub judge-refuses : {f : Refusal} → c ≡ D.Refused f → judgeCall (key k) address t out ≡ (refusalNumber f, out)
+  pub judge-refuses : {f : Refusal} → c ≡ D.Refused f → judgeCall (keyFrom k) address t out ≡ (refusalNumber f, out)
   unfolding judgeCall
-  judge-refuses refused = settle-some (verdictOutcome (judge (scheme (key k)) (tweak address) t) out) out (checked ∙ ap doneOption refused)
+  judge-refuses refused = settle-some (verdictOutcome (judge (scheme (keyFrom k)) (tweak address) t) out) out (checked ∙ ap doneOption refused)
 
 module _ (k : List ℕ) (address : ℕ) (P : List ℕ) (out : Triple) {c : Done}
-    (checked : firstOf (keyRules (key k) ++ sizeRules (length P) (length (out .local)) (length (out .remote)) (length (out .tag))) ≡ doneOption c) where
-  pub seal-passes : c ≡ D.Done → {t : Triple} → t ≡ sealed (key k) address P → sealCall (key k) address P out ≡ (0, t)
+    (checked : firstOf (partsRules (keyFrom k) (length P) (length (out .local)) (length (out .remote)) (length (out .tag))) ≡ doneOption c) where
+  pub seal-passes : c ≡ D.Done → {t : Triple} → t ≡ sealed (keyFrom k) address P → sealCall (keyFrom k) address P out ≡ (0, t)
   unfolding sealCall
-  seal-passes ok et = settle-none (0, sealed (key k) address P) out (checked ∙ ap doneOption ok) ∙ ap (λ (t : Triple). (0, t)) (sym et)
+  seal-passes ok et = settle-none (0, sealed (keyFrom k) address P) out (checked ∙ ap doneOption ok) ∙ ap (λ (t : Triple). (0, t)) (sym et)
 
-  pub seal-refuses : {f : Refusal} → c ≡ D.Refused f → sealCall (key k) address P out ≡ (refusalNumber f, out)
+  pub seal-refuses : {f : Refusal} → c ≡ D.Refused f → sealCall (keyFrom k) address P out ≡ (refusalNumber f, out)
   unfolding sealCall
-  seal-refuses refused = settle-some (0, sealed (key k) address P) out (checked ∙ ap doneOption refused)
+  seal-refuses refused = settle-some (0, sealed (keyFrom k) address P) out (checked ∙ ap doneOption refused)
 
-module _ (x y out : List ℕ) {c : Done} (checked : firstOf (sizeRules (length x) (length y) (length out) 16) ≡ doneOption c) where
+module _ (x y out : List ℕ) {c : Done} (checked : firstOf (sidesRules (length x) (length y) (length out)) ≡ doneOption c) where
   pub combine-passes : c ≡ D.Done → {o : List ℕ} → o ≡ xorBytes x y → combineCall x y out ≡ (0, o)
   unfolding combineCall
   combine-passes ok eo = settle-none (0, xorBytes x y) out (checked ∙ ap doneOption ok) ∙ ap (λ (o : List ℕ). (0, o)) (sym eo)

@@ -1,30 +1,22 @@
 -- Document 01's calls on a sector: for every input, the number of the answer and every lent byte afterwards. Assumes nothing: these are
 -- definitions.
-use mathlib.Core.Bool.{not, _&&_, _||_}
-use mathlib.Core.List.{List, [], _∷_, _++_}
+use mathlib.Core.List.{List}
 use mathlib.Core.Option.{Option, none, some}
 use Prim.Native.Nat.{ℕ}
-use lib.Dec.{eqb}
 use lib.ListN.{length}
 use Rattle.block.specs.Bytes.{xorBytes}
 use Rattle.mode.specs.Sealing.{Key, Triple, tweak, sealed}
-use Rattle.mode.specs.Scheme.{on, isSize, scheme}
+use Rattle.mode.specs.Scheme.{on, scheme}
 use Rattle.verdict.specs.Verdict.{judge, placeOf, otherSide, sideOf, opened}
-use Rattle.verdict.specs.Answers.{Rule, rule, firstOf, keyRules, settle}
+use Rattle.answers.specs.Rules.{firstOf, sidesRules, partsRules, openRules, settle}
 use Rattle.verdict.specs.Judging.{verdictOutcome}
-
--- ---- refusals 2 and 3
-
--- the size s, two lengths that must equal it, and a tag's length
-abbrev pub sizeRules : ℕ → ℕ → ℕ → ℕ → List Rule
-sizeRules s x y g = rule 2 (not (isSize s)) ∷ rule 3 (not (eqb x s && (eqb y s && eqb g 16))) ∷ []
 
 -- ---- seal, with the three outputs before
 
 unfoldable pub sealCall : Key → ℕ → List ℕ → Triple → ℕ × Triple
 sealCall k address P out =
     settle
-    (firstOf (keyRules k ++ sizeRules (length P) (length (out .local)) (length (out .remote)) (length (out .tag))))
+    (firstOf (partsRules k (length P) (length (out .local)) (length (out .remote)) (length (out .tag))))
     (0, sealed k address P) out
 
 -- ---- judge, with the output before
@@ -32,13 +24,10 @@ sealCall k address P out =
 unfoldable pub judgeCall : Key → ℕ → Triple → List ℕ → ℕ × List ℕ
 judgeCall k address t out =
     settle
-    (firstOf (keyRules k ++ sizeRules (length (t .local)) (length (t .remote)) (length out) (length (t .tag))))
+    (firstOf (partsRules k (length (t .local)) (length (t .remote)) (length out) (length (t .tag))))
     (verdictOutcome (judge (scheme k) (tweak address) t) out) out
 
 -- ---- open and rebuild, of the side with the number d: 0 is local, 1 remote
-
-abbrev pub sideRules : ℕ → List Rule
-sideRules d = rule 4 (not (eqb d 0 || eqb d 1)) ∷ []
 
 -- f says what is written of the plaintext found
 abbrev pub openOutcome : (List ℕ → List ℕ) → Option (List ℕ) → List ℕ → ℕ × List ℕ
@@ -48,7 +37,7 @@ openOutcome f (some P) out = (0, f P)
 abbrev pub openWith : (List ℕ → List ℕ) → Key → ℕ → ℕ → List ℕ → List ℕ → List ℕ → ℕ × List ℕ
 openWith f k address d x g out =
     settle
-    (firstOf (keyRules k ++ (sizeRules (length x) (length out) (length out) (length g) ++ sideRules d)))
+    (firstOf (openRules k (length x) (length out) (length g) d))
     (openOutcome f (opened (scheme k) (tweak address) (sideOf d) g x) out) out
 
 unfoldable pub openCall : Key → ℕ → ℕ → List ℕ → List ℕ → List ℕ → ℕ × List ℕ
@@ -60,4 +49,4 @@ rebuildCall k address d = openWith (λ P. on (sealed k address P) (placeOf (othe
 -- ---- combine
 
 unfoldable pub combineCall : List ℕ → List ℕ → List ℕ → ℕ × List ℕ
-combineCall x y out = settle (firstOf (sizeRules (length x) (length y) (length out) 16)) (0, xorBytes x y) out
+combineCall x y out = settle (firstOf (sidesRules (length x) (length y) (length out))) (0, xorBytes x y) out

@@ -10,7 +10,7 @@ use Rattle.block.specs.Bytes.{Plain}
 use Rattle.mode.specs.Sealing.{Key, Triple, tweak, sealed}
 use Rattle.mode.specs.Scheme.{Place, on, wide, Sector, isKey, isSize, scheme}
 use Rattle.sector.specs.Calls.{sealCall, judgeCall, openCall, rebuildCall, combineCall}
-use Rattle.verdict.specs.Answers.{doubtNumber}
+use Rattle.answers.specs.Answers.{doubtNumber}
 use Rattle.verdict.specs.Verdict.{Fits, whole, doubtful, lost, clashing, Means, Side, localSide, remoteSide, placeOf, otherSide, JudgeExact, OpenExact}
 
 -- the number of a side

@@ -7,9 +7,8 @@ use Rattle.block.specs.Bytes.{Plain, toBytes}
 use Rattle.block.specs.Field.{mul}
 use Rattle.aes.specs.Aes.{sBoxTable}
 use Rattle.hash.specs.Brw.{brw}
-use Rattle.mode.specs.Sealing.{Key, hashKey, tweak, localBlock, remoteBlock}
+use Rattle.mode.specs.Sealing.{Key, hashKey, tweak, localBlock, remoteBlock, triple}
 use Rattle.mode.specs.Scheme.{Scheme, dcm, scheme}
-use Rattle.verdict.specs.Judging.{triple}
 use Rattle.verdict.specs.Verdict.{clashing, judge}
 
 -- row (h)'s plaintexts of two blocks: h and then 0, and h and then 1

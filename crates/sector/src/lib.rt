@@ -1,51 +1,24 @@
 // The sealed sector (document 01): seal, judge, open, rebuild and combine. Each call takes any input and checks it for itself.
 use aes::Table;
+use answers::Done;
+use answers::Judged;
+use answers::Refusal;
 use mode::Context;
 use mode::Direction;
-use verdict::Done;
-use verdict::Judged;
-use verdict::Refusal;
 ghost use mathlib.Core.Path.{_≡_};
-ghost use mathlib.Core.List.{_++_};
+ghost use mathlib.Core.Bool.{true};
 ghost use lib.ListN.{length};
 ghost use Rattle.block.specs.Value.{value};
 ghost use Rattle.mode.specs.Prepared.{Ready};
-ghost use Rattle.mode.specs.Scheme.{scheme};
-ghost use Rattle.mode.specs.Sealing.{tweak, sealed};
-ghost use Rattle.verdict.specs.Answers.{firstOf, keyRules, doneOption, doneNumber, judgedNumber};
+ghost use Rattle.mode.specs.Scheme.{isKey, scheme};
+ghost use Rattle.mode.specs.Sealing.{tweak, sealed, keyFrom, triple};
+ghost use Rattle.answers.specs.Answers.{doneNumber, judgedNumber};
+ghost use Rattle.answers.specs.Passing.{Sizes};
 ghost use Rattle.verdict.specs.Judging.{schemeOf, sealingOf, verdictOutcome};
-ghost use Rattle.verdict.specs.Judging as J;
 ghost use Rattle.verdict.specs.Verdict.{otherSide, sideOf};
 ghost use Rattle.verdict.specs.Verdict as W;
-ghost use Rattle.sector.specs.Calls.{sizeRules, sideRules, sealCall, judgeCall, openCall, rebuildCall, combineCall};
+ghost use Rattle.sector.specs.Calls.{sealCall, judgeCall, openCall, rebuildCall, combineCall};
 ghost use Rattle.sector.specs.Opening.{openedAs, openAs};
-ghost use Rattle.sector.specs.Sizes.{Sizes};
-
-// Refusals 2 and 3: the size s, two lengths that must equal it, and a tag's length.
-fn check_sizes(s: usize, x: usize, y: usize, g: usize) -> Done
-    ensures { λ r. ⌜ firstOf (sizeRules s x y g) ≡ doneOption r ⌝ }
-{
-    if verdict::is_size(s) {
-        if x == s {
-            if y == s {
-                if g == 16 {
-                    return Done::Done;
-                }
-            }
-        }
-        return Done::Refused(Refusal::OtherLength);
-    }
-    Done::Refused(Refusal::SectorSize)
-}
-
-// Refusals 1, 2 and 3.
-fn check(key: &[u8], s: usize, x: usize, y: usize, g: usize) -> Done
-    ensures { λ r. ⌜ firstOf (keyRules (J.key (now (key .entry))) ++ sizeRules s x y g) ≡ doneOption r ⌝ }
-{
-    let keyed = verdict::check_key(key);
-    let sized = check_sizes(s, x, y, g);
-    verdict::first_refusal(keyed, sized)
-}
 
 fn judge_checked(
     key: &[u8],
@@ -55,8 +28,8 @@ fn judge_checked(
     remote: &[u8],
     out: &mut [u8],
 ) -> Judged
-    requires { ⌜ (length (now key) ≡ 32) × Sizes (length (now local)) (length (now remote)) (length (now out)) (length (now tag)) ⌝ }
-    ensures { λ r. ⌜ verdictOutcome (W.judge (scheme (J.key (now (key .entry)))) (tweak address) (J.triple (now (local .entry)) (now (tag .entry)) (now (remote .entry)))) (now (out .entry)) ≡ (judgedNumber r, now (out .exit)) ⌝ }
+    requires { ⌜ (isKey (keyFrom (now key)) ≡ true) × Sizes (length (now local)) (length (now remote)) (length (now out)) (length (now tag)) ⌝ }
+    ensures { λ r. ⌜ verdictOutcome (W.judge (scheme (keyFrom (now (key .entry)))) (tweak address) (triple (now (local .entry)) (now (tag .entry)) (now (remote .entry)))) (now (out .entry)) ≡ (judgedNumber r, now (out .exit)) ⌝ }
 {
     let t = aes::table();
     let k = mode::prepare(&t, key);
@@ -89,9 +62,9 @@ pub fn judge(
     remote: &[u8],
     out: &mut [u8],
 ) -> Judged
-    ensures { λ r. ⌜ judgeCall (J.key (now (key .entry))) address (J.triple (now (local .entry)) (now (tag .entry)) (now (remote .entry))) (now (out .entry)) ≡ (judgedNumber r, now (out .exit)) ⌝ }
+    ensures { λ r. ⌜ judgeCall (keyFrom (now (key .entry))) address (triple (now (local .entry)) (now (tag .entry)) (now (remote .entry))) (now (out .entry)) ≡ (judgedNumber r, now (out .exit)) ⌝ }
 {
-    let checked = check(key, local.len(), remote.len(), out.len(), tag.len());
+    let checked = answers::check_parts(key, local.len(), remote.len(), out.len(), tag.len());
     match checked {
         Done::Done => judge_checked(key, address, local, tag, remote, out),
         Done::Refused(r) => Judged::Refused(r),
@@ -110,7 +83,7 @@ fn seal_in(
     tag: &mut [u8],
 )
     requires { ⌜ Ready (now t) (now w) (now powers) m × Sizes (length (now p)) (length (now local)) (length (now remote)) (length (now tag)) ⌝ }
-    ensures { λ _. ⌜ J.triple (now (local .exit)) (now (tag .exit)) (now (remote .exit)) ≡ schemeOf (now (w .entry)) (now (powers .entry)) .sealed (value (m .tweak)) (now (p .entry)) ⌝ }
+    ensures { λ _. ⌜ triple (now (local .exit)) (now (tag .exit)) (now (remote .exit)) ≡ schemeOf (now (w .entry)) (now (powers .entry)) .sealed (value (m .tweak)) (now (p .entry)) ⌝ }
 {
     let g = mode::tag_block(t, w, powers, m, p);
     mode::seal_sides(t, w, m.beta, g, p, local, remote);
@@ -125,8 +98,8 @@ fn seal_checked(
     remote: &mut [u8],
     tag: &mut [u8],
 )
-    requires { ⌜ (length (now key) ≡ 32) × Sizes (length (now p)) (length (now local)) (length (now remote)) (length (now tag)) ⌝ }
-    ensures { λ _. ⌜ J.triple (now (local .exit)) (now (tag .exit)) (now (remote .exit)) ≡ sealed (J.key (now (key .entry))) address (now (p .entry)) ⌝ }
+    requires { ⌜ (isKey (keyFrom (now key)) ≡ true) × Sizes (length (now p)) (length (now local)) (length (now remote)) (length (now tag)) ⌝ }
+    ensures { λ _. ⌜ triple (now (local .exit)) (now (tag .exit)) (now (remote .exit)) ≡ sealed (keyFrom (now (key .entry))) address (now (p .entry)) ⌝ }
 {
     let t = aes::table();
     let k = mode::prepare(&t, key);
@@ -145,9 +118,9 @@ pub fn seal(
     remote: &mut [u8],
     tag: &mut [u8],
 ) -> Done
-    ensures { λ r. ⌜ sealCall (J.key (now (key .entry))) address (now (p .entry)) (J.triple (now (local .entry)) (now (tag .entry)) (now (remote .entry))) ≡ (doneNumber r, J.triple (now (local .exit)) (now (tag .exit)) (now (remote .exit))) ⌝ }
+    ensures { λ r. ⌜ sealCall (keyFrom (now (key .entry))) address (now (p .entry)) (triple (now (local .entry)) (now (tag .entry)) (now (remote .entry))) ≡ (doneNumber r, triple (now (local .exit)) (now (tag .exit)) (now (remote .exit))) ⌝ }
 {
-    let checked = check(key, p.len(), local.len(), remote.len(), tag.len());
+    let checked = answers::check_parts(key, p.len(), local.len(), remote.len(), tag.len());
     match checked {
         Done::Done => {
             seal_checked(key, address, p, local, remote, tag);
@@ -161,7 +134,7 @@ pub fn seal(
 pub fn combine(local: &[u8], remote: &[u8], out: &mut [u8]) -> Done
     ensures { λ r. ⌜ combineCall (now (local .entry)) (now (remote .entry)) (now (out .entry)) ≡ (doneNumber r, now (out .exit)) ⌝ }
 {
-    let checked = check_sizes(local.len(), remote.len(), out.len(), 16);
+    let checked = answers::check_sides(local.len(), remote.len(), out.len());
     match checked {
         Done::Done => {
             block::xor_bytes(local, remote, out);
@@ -180,28 +153,6 @@ fn sealing_opposite(side: u32) -> Direction
     } else {
         Direction::SealLocal
     }
-}
-
-// Refusal 4.
-fn check_side(side: u32) -> Done
-    ensures { λ r. ⌜ firstOf (sideRules side) ≡ doneOption r ⌝ }
-{
-    if side == 0 {
-        return Done::Done;
-    }
-    if side == 1 {
-        return Done::Done;
-    }
-    Done::Refused(Refusal::UnknownSide)
-}
-
-// Refusals 1 to 4 of open and rebuild.
-fn check_open(key: &[u8], s: usize, out: usize, g: usize, side: u32) -> Done
-    ensures { λ r. ⌜ firstOf (keyRules (J.key (now (key .entry))) ++ (sizeRules s out out g ++ sideRules side)) ≡ doneOption r ⌝ }
-{
-    let checked = check(key, s, out, out, g);
-    let sided = check_side(side);
-    verdict::first_refusal(checked, sided)
 }
 
 // What opening a side writes: the plaintext, or the opposite side as the plaintext seals.
@@ -251,8 +202,8 @@ fn open_checked(
     tag: &[u8],
     out: &mut [u8],
 ) -> Done
-    requires { ⌜ (length (now key) ≡ 32) × Sizes (length (now x)) (length (now out)) (length (now out)) (length (now tag)) ⌝ }
-    ensures { λ r. ⌜ openedAs wanted (scheme (J.key (now (key .entry)))) (tweak address) side (now (x .entry)) (now (tag .entry)) (now (out .entry)) ≡ (doneNumber r, now (out .exit)) ⌝ }
+    requires { ⌜ (isKey (keyFrom (now key)) ≡ true) × Sizes (length (now x)) (length (now out)) (length (now out)) (length (now tag)) ⌝ }
+    ensures { λ r. ⌜ openedAs wanted (scheme (keyFrom (now (key .entry)))) (tweak address) side (now (x .entry)) (now (tag .entry)) (now (out .entry)) ≡ (doneNumber r, now (out .exit)) ⌝ }
 {
     let t = aes::table();
     let k = mode::prepare(&t, key);
@@ -285,9 +236,9 @@ fn open_as(
     tag: &[u8],
     out: &mut [u8],
 ) -> Done
-    ensures { λ r. ⌜ openAs wanted (J.key (now (key .entry))) address side (now (x .entry)) (now (tag .entry)) (now (out .entry)) ≡ (doneNumber r, now (out .exit)) ⌝ }
+    ensures { λ r. ⌜ openAs wanted (keyFrom (now (key .entry))) address side (now (x .entry)) (now (tag .entry)) (now (out .entry)) ≡ (doneNumber r, now (out .exit)) ⌝ }
 {
-    let checked = check_open(key, x.len(), out.len(), tag.len(), side);
+    let checked = answers::check_open(key, x.len(), out.len(), tag.len(), side);
     match checked {
         Done::Done => open_checked(wanted, key, address, side, x, tag, out),
         Done::Refused(r) => Done::Refused(r),
@@ -296,14 +247,14 @@ fn open_as(
 
 // Gives the one plaintext that fits the tag and the sector x of a side: 0 is local, 1 remote.
 pub fn open(key: &[u8], address: u64, side: u32, x: &[u8], tag: &[u8], out: &mut [u8]) -> Done
-    ensures { λ r. ⌜ openCall (J.key (now (key .entry))) address side (now (x .entry)) (now (tag .entry)) (now (out .entry)) ≡ (doneNumber r, now (out .exit)) ⌝ }
+    ensures { λ r. ⌜ openCall (keyFrom (now (key .entry))) address side (now (x .entry)) (now (tag .entry)) (now (out .entry)) ≡ (doneNumber r, now (out .exit)) ⌝ }
 {
     open_as(Wanted::Plaintext, key, address, side, x, tag, out)
 }
 
 // Writes the opposite side from the sector x of a side and the tag.
 pub fn rebuild(key: &[u8], address: u64, side: u32, x: &[u8], tag: &[u8], out: &mut [u8]) -> Done
-    ensures { λ r. ⌜ rebuildCall (J.key (now (key .entry))) address side (now (x .entry)) (now (tag .entry)) (now (out .entry)) ≡ (doneNumber r, now (out .exit)) ⌝ }
+    ensures { λ r. ⌜ rebuildCall (keyFrom (now (key .entry))) address side (now (x .entry)) (now (tag .entry)) (now (out .entry)) ≡ (doneNumber r, now (out .exit)) ⌝ }
 {
     open_as(Wanted::Opposite, key, address, side, x, tag, out)
 }

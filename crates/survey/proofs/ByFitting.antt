@@ -10,7 +10,7 @@ use borrow.Author.Tests.{not-true}
 use Rattle.block.proofs.Lists.{false-true, clash}
 use Rattle.mode.specs.Scheme.{Place, Scheme, Sector}
 use Rattle.mode.specs.Sealing.{Triple, Key}
-use Rattle.verdict.specs.Answers.{settleBy}
+use Rattle.answers.specs.Rules.{settleBy, volume}
 use Rattle.verdict.specs.Verdict.{Verdict, whole, doubtful, lost, clashing, Means, judge, JudgeExact}
 use Rattle.verdict.proofs.JudgeExact.{judge-exact}
 use Rattle.history.specs.Answers.{isWhole, isDoubtful, isClashing, isLost}
@@ -18,10 +18,11 @@ use Rattle.history.specs.HistoryFrom.{AnyBytes}
 use Rattle.history.specs.Volume.{sectorOf, mirror}
 use Rattle.history.proofs.Demand3.{mirror-sound}
 use Rattle.history.proofs.Images.{sector-images}
-use Rattle.history.proofs.Refusals.{Common, shape-facts, shape-images}
+use Rattle.answers.proofs.Passing.{Common, survey-passed}
+use Rattle.answers.proofs.Shapes.{shape-facts}
+use Rattle.history.proofs.Refusals.{shape-images}
 use Rattle.survey.specs.declared.Counts.{Counts}
 use Rattle.survey.specs.Survey.{chosen, tally, listed, health, countsOf, written, Report, refused, counted, verdictAt, surveyed, surveyRefusal, surveyOutcome, WholeAt, DoubtfulAt, ClashingAt, LostAt, Many, ByFitting}
-use Rattle.survey.proofs.Checks.{tests}
 use Rattle.survey.proofs.Tallies.{chosen-lists, all-counted, health-most, health-full}
 
 -- ---- one sector
@@ -90,17 +91,17 @@ IsCounted (counted c) = Unit {0}
 
 -- what holds of the counts and the list of a survey that passes its checks holds of those that a caller gets
 pub of-outcome : (v : Triple) (k : Key) (s n : ℕ) (list : List ℕ) (Q : Report × List ℕ → Type 0)
-    → (Common v k s n → Q (surveyed (verdictAt (mirror k) s v) n list))
+    → (Common v (volume k s n) → Q (surveyed (verdictAt (mirror k) s v) n list))
     → (c : Counts) (after : List ℕ) → surveyOutcome v k s n list ≡ (counted c, after) → Q (counted c, after)
 unfolding surveyOutcome
 of-outcome v k s n list Q q c after e = go (surveyRefusal v k s n (length list)) refl e
   where
     go : (o : Option ℕ) → surveyRefusal v k s n (length list) ≡ o
         → settleBy refused o (surveyed (verdictAt (mirror k) s v) n list) list ≡ (counted c, after) → Q (counted c, after)
-    go none d z = subst Q z (q (tests v k s n (length list) d .0))
+    go none d z = subst Q z (q (survey-passed v (volume k s n) (length list) d .0))
     go (some m) d z = absurd (subst (λ (x : Report × List ℕ). IsCounted (x .0)) (sym z) tt)
 
-module _ (v : Triple) (bytes : AnyBytes v) (k : Key) (s n : ℕ) (o : Common v k s n) where
+module _ (v : Triple) (bytes : AnyBytes v) (k : Key) (s n : ℕ) (o : Common v (volume k s n)) where
   w : ℕ → Verdict
   w = verdictAt (mirror k) s v
 

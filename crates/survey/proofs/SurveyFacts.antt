@@ -11,11 +11,12 @@ use Rattle.history.specs.Answers.{isLost}
 use Rattle.history.specs.History.{Found, Promise, Promised}
 use Rattle.history.specs.HistoryFrom.{AnyBytes}
 use Rattle.history.specs.Machine.{Held, gone, kept, start}
-use Rattle.history.specs.Power.{Event, call, damage, Volume, CutOf, leaves, Allowed, AllAllowed, run, hold}
+use Rattle.answers.specs.Rules.{Volume}
+use Rattle.history.specs.Power.{Event, call, damage, CutOf, leaves, Allowed, AllAllowed, run, hold}
 use Rattle.history.specs.Volume.{refusal, mirror}
 use Rattle.history.proofs.Demand3.{mirror-sound, general}
 use Rattle.history.proofs.Images.{any-bytes, bytes-write, leaves-refused, left}
-use Rattle.history.proofs.Refusals.{Common}
+use Rattle.answers.proofs.Passing.{Common}
 use Rattle.survey.specs.declared.Counts.{Counts}
 use Rattle.survey.specs.Survey.{tally, Report, refused, counted, verdictAt, surveyOutcome, LostAt, isKept, SurveyFacts}
 use Rattle.survey.proofs.ByFitting.{of-outcome, lost-at, by-fitting}
@@ -38,8 +39,8 @@ leaves-bytes vol v b (call a c f) m = go (refusal mirror v a c) refl
   where
     go : (o : Option ℕ) → refusal mirror v a c ≡ o → AnyBytes (leaves mirror vol v (call a c f))
     go none e =
-        let cuts : CutOf (a .size) f = subst (λ (s : ℕ). CutOf s f) (sym (m .0 e .size)) (m .2) in
-        any-bytes (a .size) (a .count) _ (left mirror mirror-sound v b a c f (m .1) cuts e .images)
+        let cuts = subst (λ (u : Volume). CutOf (u .size) f) (sym (m .0 e)) (m .2) in
+        any-bytes (a .volume .size) (a .volume .count) _ (left mirror mirror-sound v b a c f (m .1) cuts e .images)
     go (some k) e = subst AnyBytes (sym (leaves-refused mirror v a c f k e)) b
 leaves-bytes vol v b (damage p i x) m = bytes-write (vol .size) i p x v b (m .1 .bytes)
 
@@ -58,7 +59,7 @@ module _ (vol : Volume) (v : Triple) (bytes : AnyBytes v) (es : List Event) (all
   Covers (refused m, list) = Unit {0}
   Covers (counted c, list) = tally isKept (hold mirror vol v start es) (vol .count) ≤ c .whole + c .doubtful + c .clashing
 
-  kept-not-lost : Common (run mirror vol v es) (vol .key) (vol .size) (vol .count) → (i : ℕ) → i < vol .count → isKept (hold mirror vol v start es i) ≡ true
+  kept-not-lost : Common (run mirror vol v es) vol → (i : ℕ) → i < vol .count → isKept (hold mirror vol v start es i) ≡ true
       → isLost (verdictAt (mirror (vol .key)) (vol .size) (run mirror vol v es) i) ≡ false
   kept-not-lost o i lt e = go (isLost (verdictAt (mirror (vol .key)) (vol .size) (run mirror vol v es) i)) refl
     where

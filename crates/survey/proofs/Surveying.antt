@@ -14,16 +14,16 @@ use Rattle.mode.specs.declared.Context.{Context}
 use Rattle.mode.specs.declared.Prepared.{Prepared}
 use Rattle.mode.specs.Prepared.{PreparedFor, Ready}
 use Rattle.mode.specs.Scheme.{Scheme, dcm, scheme}
-use Rattle.mode.specs.Sealing.{tweak, sealed}
+use Rattle.mode.specs.Sealing.{tweak, sealed, keyFrom, triple}
 use Rattle.block.specs.Value.{value}
 use Rattle.block.specs.Bytes.{part}
-use Rattle.verdict.specs.declared.Judged.{Judged}
-use Rattle.verdict.specs.declared.Judged.the-variants as J
-use Rattle.verdict.specs.declared.Place as D
-use Rattle.verdict.specs.declared.Refusal.{Refusal}
-use Rattle.verdict.specs.declared.Refusal.the-variants.{KeyLength, SectorSize, OtherLength, UnknownSide, NoneFits, Lost, Clashing, VolumeShape, SectorNumber, StageOrder, ListLength, NoFrame}
-use Rattle.verdict.specs.Answers.{refusalNumber, placeNamed, judgedNumber}
-use Rattle.verdict.specs.Judging.{key, triple, verdictNumber, schemeOf, judgedBy}
+use Rattle.answers.specs.declared.Judged.{Judged}
+use Rattle.answers.specs.declared.Judged.the-variants as J
+use Rattle.answers.specs.declared.Place as D
+use Rattle.answers.specs.declared.Refusal.{Refusal}
+use Rattle.answers.specs.declared.Refusal.the-variants.{KeyLength, SectorSize, OtherLength, UnknownSide, NoneFits, Lost, Clashing, VolumeShape, SectorNumber, StageOrder, ListLength, NoFrame}
+use Rattle.answers.specs.Answers.{refusalNumber, placeNamed, judgedNumber}
+use Rattle.verdict.specs.Judging.{verdictNumber, schemeOf, judgedBy}
 use Rattle.verdict.specs.Verdict.{Verdict, whole, doubtful, lost, clashing, fits, fitsTwo, candidate, grade, judge}
 use Rattle.verdict.proofs.Prepared.{scheme-is}
 use Rattle.verdict.proofs.Numbers.{refusal-range, doubt-least, outcome-number}
@@ -251,6 +251,6 @@ verdict-by w p m s i l g r out new j em e = record {
 }
 
 pub survey-keyed : (k : List ℕ) (r : Prepared) → PreparedFor k r → (s n : ℕ) (l g x list : List ℕ) {a : Report × List ℕ}
-    → surveyed (verdictBy (schemeOf (r .words) (r .powers)) s l g x) n list ≡ a → surveyed (verdictAt (mirror (key k)) s (triple l g x)) n list ≡ a
+    → surveyed (verdictBy (schemeOf (r .words) (r .powers)) s l g x) n list ≡ a → surveyed (verdictAt (mirror (keyFrom k)) s (triple l g x)) n list ≡ a
 unfolding judge grade fitsTwo fits candidate mirror sealed scheme dcm
 survey-keyed k r e s n l g x list d = sym (ap (λ (S : Scheme). surveyed (verdictBy S s l g x) n list) (scheme-is k r e)) ∙ d

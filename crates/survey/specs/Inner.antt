@@ -6,8 +6,8 @@ use Prim.Native.Nat.{ℕ, suc}
 use lib.ListN.{set}
 use Rattle.mode.specs.Sealing.{tweak}
 use Rattle.mode.specs.Scheme.{Scheme}
-use Rattle.verdict.specs.declared.Judged.{Judged}
-use Rattle.verdict.specs.Answers.{judgedNumber}
+use Rattle.answers.specs.declared.Judged.{Judged}
+use Rattle.answers.specs.Answers.{judgedNumber}
 use Rattle.verdict.specs.Judging.{verdictNumber}
 use Rattle.verdict.specs.Verdict.{Verdict, judge}
 use Rattle.history.specs.Answers.{isWhole, isDoubtful, isClashing, isLost}

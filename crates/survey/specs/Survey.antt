@@ -6,11 +6,11 @@ use mathlib.Core.Bool.{Bool, true, false, not, cond}
 use mathlib.Core.List.{List, [], _∷_, _++_, List·Memᴰ}
 use mathlib.Core.Option.{Option, none, some}
 use Prim.Native.Nat.{ℕ, zero, suc, _+_, _*_, _/_, _<_, _≤_}
-use lib.Dec.{ltb}
 use lib.ListN.{length, getD, drop}
 use Rattle.mode.specs.Sealing.{Triple, Key}
 use Rattle.mode.specs.Scheme.{Place, isKey, isSize, Scheme}
-use Rattle.verdict.specs.Answers.{Rule, rule, firstOf, settleBy, refusalNumber}
+use Rattle.answers.specs.Answers.{refusalNumber}
+use Rattle.answers.specs.Rules.{firstOf, settleBy, Volume, isShape, surveyRules, volume}
 use Rattle.verdict.specs.Verdict.{Verdict, whole, doubtful, lost, clashing, Means, judge}
 use Rattle.survey.specs.declared.Counts.{Counts}
 use Rattle.survey.specs.declared.Surveyed.{Surveyed}
@@ -18,8 +18,8 @@ use Rattle.survey.specs.declared.Surveyed.the-variants.{Counted, Refused
 use Rattle.history.specs.Answers.{isWhole, isDoubtful, isClashing, isLost}
 use Rattle.history.specs.HistoryFrom.{AnyBytes}
 use Rattle.history.specs.Machine.{Held, gone, kept, start}
-use Rattle.history.specs.Power.{Event, Volume, AllAllowed, run, hold}
-use Rattle.history.specs.Volume.{sectorOf, isShape, volumeRules, mirror}
+use Rattle.history.specs.Power.{Event, AllAllowed, run, hold}
+use Rattle.history.specs.Volume.{sectorOf, mirror}
 
 -- ---- counts and the list, from the verdict on each sector
 
@@ -65,13 +65,9 @@ abbrev pub reportOf : Surveyed → Report
 reportOf (Counted c) = counted c
 reportOf (Refused r) = refused (refusalNumber r)
 
--- after 1, 2 and 8 of every call: 11, of a list of `room` numbers
-abbrev pub surveyRules : Key → ℕ → ℕ → Bool → ℕ → List Rule
-surveyRules k s n right room = volumeRules k s right ++ rule 11 (ltb room n) ∷ []
-
 -- the refusal of a survey of the images v with a list of this length, if it is refused
 abbrev pub surveyRefusal : Triple → Key → ℕ → ℕ → ℕ → Option ℕ
-surveyRefusal v k s n room = firstOf (surveyRules k s n (isShape s n v) room)
+surveyRefusal v k s n room = firstOf (surveyRules (volume k s n) (isShape s n v) room)
 
 -- the verdict on sector i of the images v
 abbrev pub verdictAt : Scheme → ℕ → Triple → ℕ → Verdict

@@ -1,22 +1,20 @@
 // The survey of a volume (document 01). The call takes any input and checks it for itself.
 use aes::Table;
+use answers::Done;
+use answers::Judged;
+use answers::Refusal;
 use mode::Context;
-use verdict::Done;
-use verdict::Judged;
-use verdict::Refusal;
 ghost use mathlib.Core.Path.{_≡_};
-ghost use mathlib.Core.List.{[], _∷_};
+ghost use mathlib.Core.Bool.{true};
 ghost use Prim.Native.Nat.{_<_, _≤_};
-ghost use lib.Dec.{ltb};
 ghost use lib.ListN.{length};
 ghost use Rattle.mode.specs.Prepared.{Ready};
-ghost use Rattle.verdict.specs.Answers.{rule, firstOf, doneOption};
+ghost use Rattle.mode.specs.Scheme.{isKey};
 ghost use Rattle.verdict.specs.Judging.{schemeOf};
-ghost use Rattle.verdict.specs.Judging as C;
+ghost use Rattle.mode.specs.Sealing.{keyFrom, triple};
 ghost use Rattle.history.specs.Volume.{mirror};
-ghost use Rattle.history.specs.Volume as W;
 ghost use Rattle.images.specs.Lent.{Room, Within};
-ghost use Rattle.survey.specs.Survey.{surveyRules, verdictAt, health, counted, surveyed, reportOf, surveyOutcome};
+ghost use Rattle.survey.specs.Survey.{verdictAt, health, counted, surveyed, reportOf, surveyOutcome};
 ghost use Rattle.survey.specs.Inner.{verdictBy, Tells, CountsOne, ListsOne};
 
 // How many sectors have each verdict, and the whole ones in thousandths.
@@ -32,26 +30,6 @@ pub struct Counts {
 pub enum Surveyed {
     Counted(Counts),
     Refused(Refusal),
-}
-
-// Refusal 11: a list of `room` numbers that is shorter than n.
-fn check_list(n: usize, room: usize) -> Done
-    ensures { λ d. ⌜ firstOf (rule 11 (ltb room n) ∷ []) ≡ doneOption d ⌝ }
-{
-    if room < n {
-        Done::Refused(Refusal::ListLength)
-    } else {
-        Done::Done
-    }
-}
-
-// Refusals 1, 2, 8 and 11 of a survey with a list of this length.
-fn check_survey(key: &[u8], s: usize, n: usize, l: usize, g: usize, r: usize, room: usize) -> Done
-    ensures { λ d. ⌜ firstOf (surveyRules (C.key (now (key .entry))) s n (W.shape s n l g r) room) ≡ doneOption d ⌝ }
-{
-    let volume = history::check_volume(key, s, n, l, g, r);
-    let list = check_list(n, room);
-    verdict::first_refusal(volume, list)
 }
 
 // Judges sector i; m is the context of any sector, since only the tweak differs.
@@ -208,8 +186,8 @@ fn survey_checked(
     remote: &[u8],
     list: &mut [u32],
 ) -> Counts
-    requires { ⌜ (length (now key) ≡ 32) × Room s n (length (now local)) (length (now tags)) (length (now remote)) × (n ≤ length (now list)) ⌝ }
-    ensures { λ r. ⌜ surveyed (verdictAt (mirror (C.key (now (key .entry)))) s (C.triple (now (local .entry)) (now (tags .entry)) (now (remote .entry)))) n (now (list .entry)) ≡ (counted r, now (list .exit)) ⌝ }
+    requires { ⌜ (isKey (keyFrom (now key)) ≡ true) × Room s n (length (now local)) (length (now tags)) (length (now remote)) × (n ≤ length (now list)) ⌝ }
+    ensures { λ r. ⌜ surveyed (verdictAt (mirror (keyFrom (now (key .entry)))) s (triple (now (local .entry)) (now (tags .entry)) (now (remote .entry)))) n (now (list .entry)) ≡ (counted r, now (list .exit)) ⌝ }
 {
     let t = aes::table();
     let k = mode::prepare(&t, key);
@@ -229,9 +207,17 @@ pub fn survey(
     remote: &[u8],
     list: &mut [u32],
 ) -> Surveyed
-    ensures { λ r. ⌜ surveyOutcome (C.triple (now (local .entry)) (now (tags .entry)) (now (remote .entry))) (C.key (now (key .entry))) s n (now (list .entry)) ≡ (reportOf r, now (list .exit)) ⌝ }
+    ensures { λ r. ⌜ surveyOutcome (triple (now (local .entry)) (now (tags .entry)) (now (remote .entry))) (keyFrom (now (key .entry))) s n (now (list .entry)) ≡ (reportOf r, now (list .exit)) ⌝ }
 {
-    let checked = check_survey(key, s, n, local.len(), tags.len(), remote.len(), list.len());
+    let checked = answers::check_survey(
+        key,
+        s,
+        n,
+        local.len(),
+        tags.len(),
+        remote.len(),
+        list.len(),
+    );
     match checked {
         Done::Done => Surveyed::Counted(survey_checked(key, s, n, local, tags, remote, list)),
         Done::Refused(f) => Surveyed::Refused(f),

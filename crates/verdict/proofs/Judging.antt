@@ -13,11 +13,11 @@ use Rattle.aes.proofs.Bounds.{cipher-lt}
 use Rattle.hash.specs.Powers.{keyOf}
 use Rattle.mode.specs.declared.Context.{Context}
 use Rattle.mode.specs.declared.Direction.the-variants.{SealRemote}
-use Rattle.mode.specs.Sealing.{Triple, blockwise, tagBlock, pad, remoteBlock, sides, sealedBy}
+use Rattle.mode.specs.Sealing.{Triple, blockwise, tagBlock, pad, remoteBlock, sides, sealedBy, triple}
 use Rattle.mode.specs.Scheme.{Place, local, tag, remote, on, wide, Sector, Scheme, Lawful, dcm}
 use Rattle.mode.specs.Transforms.{transformed}
 use Rattle.mode.proofs.Laws.{dcm-lawful}
-use Rattle.verdict.specs.Judging.{triple, verdictOutcome, schemeOf, Lent, judgedBy, SumFits, SumFails}
+use Rattle.verdict.specs.Judging.{verdictOutcome, schemeOf, Lent, judgedBy, SumFits, SumFails}
 use Rattle.verdict.specs.Verdict.{Fits, fits, candidate, judge, Verdict, Side, localSide, remoteSide, openSide}
 use Rattle.verdict.proofs.JudgeExact.{fits-Fits, misfits}
 use Rattle.verdict.proofs.Cases as cases

@@ -1,4 +1,3 @@
-pub mod Rules
 pub mod JudgeExact
 pub mod OpenExact
 pub mod Cases

@@ -5,9 +5,9 @@ use mathlib.Core.List.{List, []}
 use Prim.Native.Nat.{ℕ, _<_}
 use lib.Dec.{eqb, lit<}
 use Rattle.mode.specs.Scheme.{Place, local, tag, remote}
-use Rattle.verdict.specs.declared.Refusal.{Refusal}
-use Rattle.verdict.specs.declared.Refusal.the-variants.{KeyLength, SectorSize, OtherLength, UnknownSide, NoneFits, Lost, Clashing, VolumeShape, SectorNumber, StageOrder, ListLength, NoFrame}
-use Rattle.verdict.specs.Answers.{doubtNumber, refusalNumber}
+use Rattle.answers.specs.declared.Refusal.{Refusal}
+use Rattle.answers.specs.declared.Refusal.the-variants.{KeyLength, SectorSize, OtherLength, UnknownSide, NoneFits, Lost, Clashing, VolumeShape, SectorNumber, StageOrder, ListLength, NoFrame}
+use Rattle.answers.specs.Answers.{doubtNumber, refusalNumber}
 use Rattle.verdict.specs.Judging.{verdictOutcome, verdictNumber}
 use Rattle.verdict.specs.Verdict.{Verdict, whole, doubtful, lost, clashing}
 

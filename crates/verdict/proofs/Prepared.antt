@@ -9,15 +9,15 @@ use Rattle.mode.specs.declared.Context.{Context}
 use Rattle.mode.specs.declared.Prepared.{Prepared}
 use Rattle.mode.specs.Prepared.{PreparedFor, Ready}
 use Rattle.mode.specs.Scheme.{dcm, scheme}
-use Rattle.mode.specs.Sealing.{tweak}
-use Rattle.verdict.specs.Judging.{key, schemeOf}
+use Rattle.mode.specs.Sealing.{tweak, keyFrom}
+use Rattle.verdict.specs.Judging.{schemeOf}
 
 -- the context m of the prepared key r at an address
 abbrev pub ContextOf : Prepared → Context → ℕ → Type 0
 ContextOf r m address = (value (m .alpha) ≡ value (r .alpha)) × (value (m .beta) ≡ value (r .beta)) × (value (m .tweak) ≡ tweak address)
 
 module _ (k : List ℕ) (r : Prepared) (e : PreparedFor k r) where
-  pub scheme-is : schemeOf (r .words) (r .powers) ≡ scheme (key k)
+  pub scheme-is : schemeOf (r .words) (r .powers) ≡ scheme (keyFrom k)
   unfolding scheme
   scheme-is = ap₂ (λ (w : List ℕ) (h : ℕ). dcm (cipherNumber w) h) (e .round-keys) (e .hash-key)
 

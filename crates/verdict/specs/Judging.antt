@@ -14,16 +14,10 @@ use Rattle.mode.specs.declared.Direction.{Direction}
 use Rattle.mode.specs.declared.Direction.the-variants.{SealLocal, SealRemote, OpenLocal, OpenRemote}
 use Rattle.mode.specs.Prepared.{Ready}
 use Rattle.mode.specs.Scheme.{Place, tag, remote, Scheme, dcm}
-use Rattle.mode.specs.Sealing.{Key, Triple}
-use Rattle.verdict.specs.Answers.{foundNumber, settle}
+use Rattle.mode.specs.Sealing.{triple}
+use Rattle.answers.specs.Answers.{foundNumber}
+use Rattle.answers.specs.Rules.{settle}
 use Rattle.verdict.specs.Verdict.{Verdict, whole, doubtful, lost, clashing, fits, judge, Side, localSide, remoteSide}
-
--- a key and three places, from their bytes
-abbrev pub key : List ℕ → Key
-key b = record { bytes = b }
-
-abbrev pub triple : List ℕ → List ℕ → List ℕ → Triple
-triple l g r = record { local = l; tag = g; remote = r }
 
 -- the mode under the round keys w and the powers p of the hash key
 abbrev pub schemeOf : List ℕ → List ℕ → Scheme

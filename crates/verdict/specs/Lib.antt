@@ -1,3 +1,2 @@
 pub mod Verdict
-pub mod Answers
 pub mod Judging

@@ -1,6 +1,9 @@
-// What calls on a sector and on a volume share: the answers, the tests of a key and a size, and judging a sector and opening a side with
-// a prepared key (document 01, "The verdict"). An inner crate: its functions may require what their callers have checked.
+// Judging a sector and opening a side with a prepared key (document 01, "The verdict"), which the calls on a sector and on a volume share.
+// An inner crate: its functions may require what their callers have checked.
 use aes::Table;
+use answers::Judged;
+use answers::Place;
+use answers::Refusal;
 use block::Block;
 use mode::Context;
 use mode::Direction;
@@ -10,132 +13,10 @@ ghost use lib.ListN.{length};
 ghost use Rattle.block.specs.Bytes.{same};
 ghost use Rattle.block.specs.Value.{value};
 ghost use Rattle.mode.specs.Prepared.{Ready};
-ghost use Rattle.mode.specs.Scheme.{isSize};
 ghost use Rattle.mode.specs.Sealing.{tweak};
-ghost use Rattle.verdict.specs.Answers.{firstOf, firstSome, keyRules, doneOption, doubtNumber, refusalNumber, placeNamed, doneNumber, judgedNumber};
+ghost use Rattle.answers.specs.Answers.{judgedNumber};
 ghost use Rattle.verdict.specs.Judging.{schemeOf, openingOf, Lent, judgedBy, SumFits, SumFails};
-ghost use Rattle.verdict.specs.Judging as J;
 ghost use Rattle.verdict.specs.Verdict.{sideOf, openSide};
-
-// Document 01's three places.
-pub enum Place {
-    Local,
-    Tag,
-    Remote,
-}
-
-// Document 01's refusals, from 1 on. Those from 8 on are a volume's, and the last is the program `frames`'s.
-pub enum Refusal {
-    KeyLength,
-    SectorSize,
-    OtherLength,
-    UnknownSide,
-    NoneFits,
-    Lost,
-    Clashing,
-    VolumeShape,
-    SectorNumber,
-    StageOrder,
-    ListLength,
-    NoFrame,
-}
-
-// What judging answers.
-pub enum Judged {
-    Whole,
-    Doubtful(Place),
-    Refused(Refusal),
-}
-
-// What a call answers that only writes.
-pub enum Done {
-    Done,
-    Refused(Refusal),
-}
-
-// ---- the numbers of answers
-
-fn place_number(p: Place) -> u8
-    ensures { λ r. ⌜ r ≡ doubtNumber (placeNamed p) ⌝ }
-{
-    match p {
-        Place::Local => 0x81,
-        Place::Tag => 0x82,
-        Place::Remote => 0x83,
-    }
-}
-
-pub fn refusal_number(f: Refusal) -> u8
-    ensures { λ r. ⌜ r ≡ refusalNumber f ⌝ }
-{
-    match f {
-        Refusal::KeyLength => 1,
-        Refusal::SectorSize => 2,
-        Refusal::OtherLength => 3,
-        Refusal::UnknownSide => 4,
-        Refusal::NoneFits => 5,
-        Refusal::Lost => 6,
-        Refusal::Clashing => 7,
-        Refusal::VolumeShape => 8,
-        Refusal::SectorNumber => 9,
-        Refusal::StageOrder => 10,
-        Refusal::ListLength => 11,
-        Refusal::NoFrame => 12,
-    }
-}
-
-pub fn judged_number(j: Judged) -> u8
-    ensures { λ r. ⌜ r ≡ judgedNumber j ⌝ }
-{
-    match j {
-        Judged::Whole => 0,
-        Judged::Doubtful(p) => place_number(p),
-        Judged::Refused(f) => refusal_number(f),
-    }
-}
-
-pub fn done_number(d: Done) -> u8
-    ensures { λ r. ⌜ r ≡ doneNumber d ⌝ }
-{
-    match d {
-        Done::Done => 0,
-        Done::Refused(f) => refusal_number(f),
-    }
-}
-
-// Whether s is the size of a sector.
-pub fn is_size(s: usize) -> bool
-    ensures { λ r. ⌜ r ≡ isSize s ⌝ }
-{
-    if s < 16 {
-        return false;
-    }
-    if 4096 < s {
-        return false;
-    }
-    s % 16 == 0
-}
-
-// Refusal 1.
-pub fn check_key(key: &[u8]) -> Done
-    ensures { λ r. ⌜ firstOf (keyRules (J.key (now (key .entry)))) ≡ doneOption r ⌝ }
-{
-    if key.len() == 32 {
-        Done::Done
-    } else {
-        Done::Refused(Refusal::KeyLength)
-    }
-}
-
-// The first refusal of two checks in this order.
-pub fn first_refusal(one: Done, other: Done) -> Done
-    ensures { λ r. ⌜ doneOption r ≡ firstSome (doneOption one) (doneOption other) ⌝ }
-{
-    match one {
-        Done::Done => other,
-        Done::Refused(f) => Done::Refused(f),
-    }
-}
 
 // A prepared key's blocks with the tweak of an address.
 pub fn context(alpha: Block, beta: Block, address: u64) -> Context

@@ -9,8 +9,8 @@ use Rattle.mode.specs.declared.Context.{Context}
 use Rattle.mode.specs.declared.Prepared.{Prepared}
 use Rattle.mode.specs.Prepared.{PreparedFor, Ready}
 use Rattle.mode.specs.Scheme.{Place, Scheme, dcm, scheme}
-use Rattle.mode.specs.Sealing.{Key, Triple, tweak, sealed}
-use Rattle.verdict.specs.Judging.{key, verdictOutcome, schemeOf, judgedBy}
+use Rattle.mode.specs.Sealing.{Key, Triple, tweak, sealed, keyFrom}
+use Rattle.verdict.specs.Judging.{verdictOutcome, schemeOf, judgedBy}
 use Rattle.verdict.specs.Verdict.{fits, fitsTwo, candidate, grade, judge}
 use Rattle.verdict.proofs.Prepared.{ContextOf, scheme-is}
 use Rattle.history.specs.Volume.{Call, blank, first, second, third, mend, read, mirror}
@@ -35,18 +35,18 @@ module _ (k : List ℕ) (r : Prepared) (e : PreparedFor k r) (m : Context) (i : 
   T = value (m .tweak)
 
   -- a function of the scheme and the tweak
-  moved : {A : Type 0} (f : Scheme → ℕ → A) → f S T ≡ f (scheme (key k)) (tweak i)
+  moved : {A : Type 0} (f : Scheme → ℕ → A) → f S T ≡ f (scheme (keyFrom k)) (tweak i)
   moved f = ap₂ f (scheme-is k r e) (em .2)
 
-  pub late-keyed : (s : ℕ) (v : Triple) (c : Call) {x : ℕ × Triple} → lateOutcome S T s i v c ≡ x → lateOutcome (mirror (key k)) i s i v c ≡ x
-  late-keyed s v c x = sym (moved (λ R U. lateOutcome R U s i v c) ∙ late-mirror (key k) s i v c) ∙ x
+  pub late-keyed : (s : ℕ) (v : Triple) (c : Call) {x : ℕ × Triple} → lateOutcome S T s i v c ≡ x → lateOutcome (mirror (keyFrom k)) i s i v c ≡ x
+  late-keyed s v c x = sym (moved (λ R U. lateOutcome R U s i v c) ∙ late-mirror (keyFrom k) s i v c) ∙ x
 
   pub verdict-keyed : (s : ℕ) (l g x out : List ℕ) {o : ℕ × List ℕ}
-      → judgedBy (r .words) (r .powers) m (part s i l) (part 16 i g) (part s i x) out ≡ o → verdictOutcome (judge (mirror (key k)) i (placesOf s i l g x)) out ≡ o
+      → judgedBy (r .words) (r .powers) m (part s i l) (part 16 i g) (part s i x) out ≡ o → verdictOutcome (judge (mirror (keyFrom k)) i (placesOf s i l g x)) out ≡ o
   unfolding judge grade fitsTwo fits candidate mirror sealed scheme dcm
   verdict-keyed s l g x out y = sym (moved (λ R U. verdictOutcome (judge R U (placesOf s i l g x)) out)) ∙ y
 
-  pub seals-keyed : (s : ℕ) (P : List ℕ) (places : List Place) (v : Triple) {x : Triple} → x ≡ sealInto S T s i P places v → x ≡ sealInto (mirror (key k)) i s i P places v
+  pub seals-keyed : (s : ℕ) (P : List ℕ) (places : List Place) (v : Triple) {x : Triple} → x ≡ sealInto S T s i P places v → x ≡ sealInto (mirror (keyFrom k)) i s i P places v
   unfolding sealInto mirror sealed scheme dcm
   seals-keyed s P places v x = x ∙ moved (λ R U. sealInto R U s i P places v)
 

@@ -7,13 +7,14 @@ use Rattle.block.specs.Bytes.{part}
 use Rattle.block.specs.Value.{value}
 use Rattle.mode.specs.declared.Context.{Context}
 use Rattle.mode.specs.Scheme.{Scheme}
-use Rattle.mode.specs.Sealing.{Triple}
-use Rattle.verdict.specs.declared.Judged.{Judged}
-use Rattle.verdict.specs.declared.Judged.the-variants as J
-use Rattle.verdict.specs.declared.Place as D
-use Rattle.verdict.specs.declared.Refusal.{Refusal}
-use Rattle.verdict.specs.Answers.{firstOf, rulesOf, settle, foundNumber, doubtNumber, refusalNumber, placeNamed, judgedNumber}
-use Rattle.verdict.specs.Judging.{triple, verdictRefusal, verdictDoubt, schemeOf, judgedBy}
+use Rattle.mode.specs.Sealing.{Triple, triple}
+use Rattle.answers.specs.declared.Judged.{Judged}
+use Rattle.answers.specs.declared.Judged.the-variants as J
+use Rattle.answers.specs.declared.Place as D
+use Rattle.answers.specs.declared.Refusal.{Refusal}
+use Rattle.answers.specs.Answers.{foundNumber, doubtNumber, refusalNumber, placeNamed, judgedNumber}
+use Rattle.answers.specs.Rules.{firstOf, rulesOf, settle}
+use Rattle.verdict.specs.Judging.{verdictRefusal, verdictDoubt, schemeOf, judgedBy}
 use Rattle.verdict.specs.Verdict.{Verdict, judge}
 use Rattle.history.specs.Volume.{mend, sectorOf, mends}
 use Rattle.volume.specs.Inner.{one, sealInto, lateOutcome}

@@ -1,20 +1,24 @@
 -- The calls' outcomes where the early checks refuse, and where they pass. Assumes nothing.
 use mathlib.Core.Path.{_≡_, sym, ap, _∙_, subst}
+use mathlib.Core.Bool.{true}
 use mathlib.Core.List.{List, _++_}
 use Prim.Native.Nat.{ℕ, _≤_}
 use native.Mathlib.Omega.{arith}
 use lib.ListN.{length, take, replicate, length-take, length-replicate}
 use Rattle.block.proofs.Lists.{take-zeros}
-use Rattle.mode.specs.Sealing.{Triple}
-use Rattle.verdict.specs.declared.Done.{Done}
-use Rattle.verdict.specs.declared.Done.the-variants as D
-use Rattle.verdict.specs.declared.Refusal.{Refusal}
-use Rattle.verdict.specs.Answers.{Rule, firstOf, doneOption, refusalNumber}
-use Rattle.verdict.specs.Judging.{key, triple, verdictOutcome}
+use Rattle.mode.specs.Scheme.{isKey}
+use Rattle.mode.specs.Sealing.{Triple, keyFrom, triple}
+use Rattle.answers.specs.declared.Done.{Done}
+use Rattle.answers.specs.declared.Done.the-variants as D
+use Rattle.answers.specs.declared.Refusal.{Refusal}
+use Rattle.answers.specs.Answers.{doneOption, refusalNumber}
+use Rattle.answers.specs.Rules.{Rule, firstOf, Args, args, shape, isShape, sectorRules, lengthRules}
+use Rattle.verdict.specs.Judging.{verdictOutcome}
 use Rattle.verdict.specs.Verdict.{judge}
-use Rattle.history.specs.Volume.{Args, args, Call, blank, read, shape, isShape, sectorRules, lengthRules, lengths, early, sector, mirror, outcome, readOutcome}
+use Rattle.history.specs.Volume.{Call, blank, read, lengths, early, sector, mirror, outcome, readOutcome}
 use Rattle.history.proofs.Outcomes.{outcome-early, outcome-late, read-early, read-late}
-use Rattle.history.proofs.Refusals.{passed, long-3}
+use Rattle.answers.proofs.Passing.{length-due}
+use Rattle.history.proofs.Refusals.{passed}
 use Rattle.images.specs.Lent.{Within}
 use Rattle.images.proofs.Rooms.{has-room, within-room, within-same}
 use Rattle.volume.specs.Inner.{allPlaces, sealInto, lateOutcome}
@@ -28,7 +32,7 @@ prefix-size s x h = simp (length-take, length-replicate) (omega arith)
 
 module _ (k : List ℕ) (s n i : ℕ) (l g r : List ℕ) where
   abbrev a : Args
-  a = args (key k) s n i
+  a = args (keyFrom k) s n i
 
   abbrev v : Triple
   v = triple l g r
@@ -42,13 +46,12 @@ module _ (k : List ℕ) (s n i : ℕ) (l g r : List ℕ) where
     unfolding early isShape
     answered q = checks ∙ ap doneOption q
 
-    pub call-within : d ≡ D.Done → (length k ≡ 32) × Within s i (length l) (length g) (length r)
+    pub call-within : d ≡ D.Done → (isKey (keyFrom k) ≡ true) × Within s i (length l) (length g) (length r)
     call-within q =
         let p = passed v a c (answered q) in
-        let (e, room) = has-room v (key k) s n (p .common) in
-        (e, within-room s n i (length l) (length g) (length r) room (p .number))
+        (p .common .key, within-room s n i (length l) (length g) (length r) (has-room v (a .volume) (p .common)) (p .number))
 
-    pub call-done : d ≡ D.Done → {x : ℕ × Triple} → lateOutcome (mirror (key k)) i s i v c ≡ x → outcome mirror v a c ≡ x
+    pub call-done : d ≡ D.Done → {x : ℕ × Triple} → lateOutcome (mirror (keyFrom k)) i s i v c ≡ x → outcome mirror v a c ≡ x
     unfolding sealInto lateOutcome
     call-done q x = outcome-late mirror v a c (answered q) ∙ x
 
@@ -56,19 +59,19 @@ module _ (k : List ℕ) (s n i : ℕ) (l g r : List ℕ) where
     call-refused q = outcome-early mirror v a c (answered q)
 
   long : (p : ℕ) {d : Done} → Checks (read p) d → d ≡ D.Done → p ≡ s
-  long p checks q = long-3 p s (passed v a (read p) (answered (read p) checks q) .lengths)
+  long p checks q = length-due p s (passed v a (read p) (answered (read p) checks q) .lengths)
 
   -- a plaintext or an output of p bytes, which is s where the checks pass
   module _ (p : ℕ) {d : Done} (checks : firstOf (sectorRules (shape s n (length l) (length g) (length r)) a ++ lengthRules p s) ≡ doneOption d) (q : d ≡ D.Done) where
-    pub long-within : (length k ≡ 32) × Within p i (length l) (length g) (length r)
+    pub long-within : (isKey (keyFrom k) ≡ true) × Within p i (length l) (length g) (length r)
     long-within =
         let w = call-within (read p) checks q in
         (w .0, within-same (long p checks q) (w .1))
 
-    pub stage-done : (c : Call) → lengths a c ≡ lengthRules p s → {x : ℕ × Triple} → lateOutcome (mirror (key k)) i p i v c ≡ x → outcome mirror v a c ≡ x
+    pub stage-done : (c : Call) → lengths a c ≡ lengthRules p s → {x : ℕ × Triple} → lateOutcome (mirror (keyFrom k)) i p i v c ≡ x → outcome mirror v a c ≡ x
     stage-done c e x =
         let same = subst (λ (m : List Rule). firstOf (sectorRules (shape s n (length l) (length g) (length r)) a ++ m) ≡ doneOption d) (sym e) checks in
-        call-done c same q (ap (λ (m : ℕ). lateOutcome (mirror (key k)) i m i v c) (sym (long p checks q)) ∙ x)
+        call-done c same q (ap (λ (m : ℕ). lateOutcome (mirror (keyFrom k)) i m i v c) (sym (long p checks q)) ∙ x)
 
   -- ---- blank
 
@@ -79,24 +82,24 @@ module _ (k : List ℕ) (s n i : ℕ) (l g r : List ℕ) where
     pub blank-size : s ≤ 4096
     blank-size = call-within blank checks q .1 .most
 
-    pub blank-within : {m : ℕ} → m ≡ s → (length k ≡ 32) × Within m i (length l) (length g) (length r)
+    pub blank-within : {m : ℕ} → m ≡ s → (isKey (keyFrom k) ≡ true) × Within m i (length l) (length g) (length r)
     blank-within e = let w = call-within blank checks q in (w .0, within-same e (w .1))
 
-    pub blank-done : {x : Triple} → x ≡ sealInto (mirror (key k)) i (length zeros) i zeros allPlaces v → outcome mirror v a blank ≡ (0, x)
+    pub blank-done : {x : Triple} → x ≡ sealInto (mirror (keyFrom k)) i (length zeros) i zeros allPlaces v → outcome mirror v a blank ≡ (0, x)
     unfolding lateOutcome
     blank-done {x} e =
         let z = zeros-are s blank-size in
-        let y : Triple = sealInto (mirror (key k)) i s i (replicate s 0) allPlaces v in
-        let same : x ≡ y = e ∙ (λ j. sealInto (mirror (key k)) i (prefix-size s 0 blank-size j) i (z j) allPlaces v) in
+        let y : Triple = sealInto (mirror (keyFrom k)) i s i (replicate s 0) allPlaces v in
+        let same : x ≡ y = e ∙ (λ j. sealInto (mirror (keyFrom k)) i (prefix-size s 0 blank-size j) i (z j) allPlaces v) in
         call-done blank checks q (ap (λ (u : Triple). (0, u)) (sym same))
 
   -- ---- read
 
   module _ (out : List ℕ) {d : Done} (checks : Checks (read (length out)) d) where
-    pub read-within : d ≡ D.Done → (length k ≡ 32) × Within s i (length l) (length g) (length r) × (length out ≡ s)
+    pub read-within : d ≡ D.Done → (isKey (keyFrom k) ≡ true) × Within s i (length l) (length g) (length r) × (length out ≡ s)
     read-within q = let w = call-within (read (length out)) checks q in (w .0, w .1, long (length out) checks q)
 
-    pub read-done : d ≡ D.Done → {x : ℕ × List ℕ} → verdictOutcome (judge (mirror (key k)) i (sector v a)) out ≡ x → readOutcome mirror v a out ≡ x
+    pub read-done : d ≡ D.Done → {x : ℕ × List ℕ} → verdictOutcome (judge (mirror (keyFrom k)) i (sector v a)) out ≡ x → readOutcome mirror v a out ≡ x
     read-done q x = read-late mirror v a out (answered (read (length out)) checks q) ∙ x
 
     pub read-refused : {f : Refusal} → d ≡ D.Refused f → readOutcome mirror v a out ≡ (refusalNumber f, out)

@@ -10,13 +10,14 @@ use Rattle.aes.specs.Aes.{cipherNumber}
 use Rattle.hash.specs.Powers.{keyOf}
 use Rattle.mode.specs.declared.Context.{Context}
 use Rattle.mode.specs.Scheme.{Place, local, tag, remote, on, wide, Scheme}
-use Rattle.mode.specs.Sealing.{Triple, tagBlock}
-use Rattle.verdict.specs.declared.Judged.{Judged}
-use Rattle.verdict.specs.declared.Judged.the-variants as J
-use Rattle.verdict.specs.declared.Place as D
-use Rattle.verdict.specs.declared.Refusal.{Refusal}
-use Rattle.verdict.specs.Answers.{rule, firstOf, settle, judgedNumber}
-use Rattle.verdict.specs.Judging.{triple, schemeOf, judgedBy}
+use Rattle.mode.specs.Sealing.{Triple, tagBlock, triple}
+use Rattle.answers.specs.declared.Judged.{Judged}
+use Rattle.answers.specs.declared.Judged.the-variants as J
+use Rattle.answers.specs.declared.Place as D
+use Rattle.answers.specs.declared.Refusal.{Refusal}
+use Rattle.answers.specs.Answers.{judgedNumber}
+use Rattle.answers.specs.Rules.{rule, firstOf, settle}
+use Rattle.verdict.specs.Judging.{schemeOf, judgedBy}
 use Rattle.verdict.specs.Verdict.{Verdict, fits, judge}
 use Rattle.history.specs.Answers.{done, isWhole, answerNumber}
 use Rattle.history.specs.Volume.{Call, first, second, third, sectorOf, store, late, writes, result}

@@ -5,11 +5,11 @@ use mathlib.Core.List.{List}
 use mathlib.Core.Option.{some}
 use Prim.Native.Nat.{ℕ}
 use native.Mathlib.Omega.{arith}
-use Rattle.verdict.specs.declared.Judged.{Judged}
-use Rattle.verdict.specs.declared.Judged.the-variants as J
-use Rattle.verdict.specs.declared.Place as D
-use Rattle.verdict.specs.declared.Refusal.{Refusal}
-use Rattle.verdict.specs.Answers.{refusalNumber, placeNamed, judgedNumber}
+use Rattle.answers.specs.declared.Judged.{Judged}
+use Rattle.answers.specs.declared.Judged.the-variants as J
+use Rattle.answers.specs.declared.Place as D
+use Rattle.answers.specs.declared.Refusal.{Refusal}
+use Rattle.answers.specs.Answers.{refusalNumber, placeNamed, judgedNumber}
 use Rattle.verdict.specs.Judging.{verdictRefusal, verdictOutcome}
 use Rattle.verdict.specs.Verdict.{Verdict, whole, doubtful, lost, clashing}
 use Rattle.verdict.proofs.Numbers.{refusal-range, doubt-least, outcome-one}

@@ -6,11 +6,11 @@ use Rattle.block.specs.Bytes.{patch}
 use Rattle.aes.specs.Aes.{cipherNumber}
 use Rattle.hash.specs.Powers.{keyOf}
 use Rattle.mode.specs.Scheme.{Place, local, tag, remote, on, wide}
-use Rattle.mode.specs.Sealing.{tagBlock}
-use Rattle.verdict.specs.declared.Place as D
-use Rattle.verdict.specs.declared.Place.the-variants as N
-use Rattle.verdict.specs.Answers.{placeNamed}
-use Rattle.verdict.specs.Judging.{triple, schemeOf}
+use Rattle.mode.specs.Sealing.{tagBlock, triple}
+use Rattle.answers.specs.declared.Place as D
+use Rattle.answers.specs.declared.Place.the-variants as N
+use Rattle.answers.specs.Answers.{placeNamed}
+use Rattle.verdict.specs.Judging.{schemeOf}
 use Rattle.history.specs.Volume.{store}
 use Rattle.images.proofs.Sealed.{coded, coded-sealed}
 use Rattle.volume.specs.Inner.{one, allPlaces, sealInto}

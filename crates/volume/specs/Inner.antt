@@ -3,7 +3,7 @@ use mathlib.Core.List.{List, [], _∷_}
 use Prim.Native.Nat.{ℕ}
 use Rattle.mode.specs.Scheme.{Place, local, tag, remote, on, Scheme}
 use Rattle.mode.specs.Sealing.{Triple}
-use Rattle.verdict.specs.Answers.{firstOf, settle}
+use Rattle.answers.specs.Rules.{firstOf, settle}
 use Rattle.history.specs.Answers.{answerNumber}
 use Rattle.history.specs.Volume.{Call, sectorOf, writeAll, late, writes, result}
 

@@ -1,21 +1,24 @@
 // Calls on one sector of a volume (document 01): blank, three write stages, read and mend. Each call takes any input and checks it for
 // itself.
 use aes::Table;
+use answers::Done;
+use answers::Judged;
+use answers::Place;
+use answers::Refusal;
 use mode::Context;
 use mode::Direction;
-use verdict::Done;
-use verdict::Judged;
-use verdict::Place;
-use verdict::Refusal;
 ghost use mathlib.Core.Path.{_≡_};
+ghost use mathlib.Core.Bool.{true};
 ghost use lib.ListN.{length};
 ghost use Rattle.block.specs.Value.{value};
 ghost use Rattle.mode.specs.Prepared.{Ready};
-ghost use Rattle.verdict.specs.Answers.{placeNamed, doneNumber, judgedNumber};
+ghost use Rattle.mode.specs.Scheme.{isKey};
+ghost use Rattle.answers.specs.Answers.{placeNamed, doneNumber, judgedNumber};
+ghost use Rattle.answers.specs.Rules.{args};
 ghost use Rattle.verdict.specs.Judging.{verdictOutcome, schemeOf};
-ghost use Rattle.verdict.specs.Judging as C;
+ghost use Rattle.mode.specs.Sealing.{keyFrom, triple};
 ghost use Rattle.verdict.specs.Verdict.{judge};
-ghost use Rattle.history.specs.Volume.{args, mirror, outcome, readOutcome};
+ghost use Rattle.history.specs.Volume.{mirror, outcome, readOutcome};
 ghost use Rattle.history.specs.Volume as W;
 ghost use Rattle.images.specs.Lent.{Within, placesOf};
 ghost use Rattle.volume.specs.Inner.{allPlaces, one, sealInto, lateOutcome};
@@ -36,7 +39,7 @@ fn first_in(
     scratch: &mut [u8],
 ) -> Done
     requires { ⌜ Ready (now t) (now w) (now powers) m × Within (length (now p)) i (length (now local)) (length (now tags)) (length (now remote)) × (length (now plain) ≡ length (now p)) × (length (now sum) ≡ length (now p)) × (length (now scratch) ≡ length (now p)) ⌝ }
-    ensures { λ r. ⌜ lateOutcome (schemeOf (now (w .entry)) (now (powers .entry))) (value (m .tweak)) (length (now (p .entry))) i (C.triple (now (local .entry)) (now (tags .entry)) (now (remote .entry))) (W.first (now (p .entry))) ≡ (doneNumber r, C.triple (now (local .exit)) (now (tags .entry)) (now (remote .entry))) ⌝ }
+    ensures { λ r. ⌜ lateOutcome (schemeOf (now (w .entry)) (now (powers .entry))) (value (m .tweak)) (length (now (p .entry))) i (triple (now (local .entry)) (now (tags .entry)) (now (remote .entry))) (W.first (now (p .entry))) ≡ (doneNumber r, triple (now (local .exit)) (now (tags .entry)) (now (remote .entry))) ⌝ }
 {
     let s = p.len();
     let judged = images::judge_part(
@@ -78,7 +81,7 @@ fn second_in(
     scratch: &mut [u8],
 ) -> Done
     requires { ⌜ Ready (now t) (now w) (now powers) m × Within (length (now p)) i (length (now local)) (length (now tags)) (length (now remote)) × (length (now scratch) ≡ length (now p)) ⌝ }
-    ensures { λ r. ⌜ lateOutcome (schemeOf (now (w .entry)) (now (powers .entry))) (value (m .tweak)) (length (now (p .entry))) i (C.triple (now (local .entry)) (now (tags .entry)) (now (remote .entry))) (W.second (now (p .entry))) ≡ (doneNumber r, C.triple (now (local .entry)) (now (tags .exit)) (now (remote .entry))) ⌝ }
+    ensures { λ r. ⌜ lateOutcome (schemeOf (now (w .entry)) (now (powers .entry))) (value (m .tweak)) (length (now (p .entry))) i (triple (now (local .entry)) (now (tags .entry)) (now (remote .entry))) (W.second (now (p .entry))) ≡ (doneNumber r, triple (now (local .entry)) (now (tags .exit)) (now (remote .entry))) ⌝ }
 {
     let g = mode::tag_block(t, w, powers, m, p);
     if images::fits_local(t, w, m.beta, g, p, i, local, scratch) {
@@ -102,7 +105,7 @@ fn third_in(
     scratch: &mut [u8],
 ) -> Done
     requires { ⌜ Ready (now t) (now w) (now powers) m × Within (length (now p)) i (length (now local)) (length (now tags)) (length (now remote)) × (length (now scratch) ≡ length (now p)) ⌝ }
-    ensures { λ r. ⌜ lateOutcome (schemeOf (now (w .entry)) (now (powers .entry))) (value (m .tweak)) (length (now (p .entry))) i (C.triple (now (local .entry)) (now (tags .entry)) (now (remote .entry))) (W.third (now (p .entry))) ≡ (doneNumber r, C.triple (now (local .entry)) (now (tags .entry)) (now (remote .exit))) ⌝ }
+    ensures { λ r. ⌜ lateOutcome (schemeOf (now (w .entry)) (now (powers .entry))) (value (m .tweak)) (length (now (p .entry))) i (triple (now (local .entry)) (now (tags .entry)) (now (remote .entry))) (W.third (now (p .entry))) ≡ (doneNumber r, triple (now (local .entry)) (now (tags .entry)) (now (remote .exit))) ⌝ }
 {
     let g = mode::tag_block(t, w, powers, m, p);
     if images::fits_local(t, w, m.beta, g, p, i, local, scratch) {
@@ -127,7 +130,7 @@ fn write_all(
     remote: &mut [u8],
 )
     requires { ⌜ Ready (now t) (now w) (now powers) m × Within (length (now p)) i (length (now local)) (length (now tags)) (length (now remote)) ⌝ }
-    ensures { λ _. ⌜ C.triple (now (local .exit)) (now (tags .exit)) (now (remote .exit)) ≡ sealInto (schemeOf (now (w .entry)) (now (powers .entry))) (value (m .tweak)) (length (now (p .entry))) i (now (p .entry)) allPlaces (C.triple (now (local .entry)) (now (tags .entry)) (now (remote .entry))) ⌝ }
+    ensures { λ _. ⌜ triple (now (local .exit)) (now (tags .exit)) (now (remote .exit)) ≡ sealInto (schemeOf (now (w .entry)) (now (powers .entry))) (value (m .tweak)) (length (now (p .entry))) i (now (p .entry)) allPlaces (triple (now (local .entry)) (now (tags .entry)) (now (remote .entry))) ⌝ }
 {
     let g = mode::tag_block(t, w, powers, m, p);
     images::write_side(t, w, m.beta, Direction::SealLocal, g, p, i, local);
@@ -149,7 +152,7 @@ fn write_place(
     remote: &mut [u8],
 )
     requires { ⌜ Ready (now t) (now w) (now powers) m × Within (length (now p)) i (length (now local)) (length (now tags)) (length (now remote)) ⌝ }
-    ensures { λ _. ⌜ C.triple (now (local .exit)) (now (tags .exit)) (now (remote .exit)) ≡ sealInto (schemeOf (now (w .entry)) (now (powers .entry))) (value (m .tweak)) (length (now (p .entry))) i (now (p .entry)) (one (placeNamed place)) (C.triple (now (local .entry)) (now (tags .entry)) (now (remote .entry))) ⌝ }
+    ensures { λ _. ⌜ triple (now (local .exit)) (now (tags .exit)) (now (remote .exit)) ≡ sealInto (schemeOf (now (w .entry)) (now (powers .entry))) (value (m .tweak)) (length (now (p .entry))) i (now (p .entry)) (one (placeNamed place)) (triple (now (local .entry)) (now (tags .entry)) (now (remote .entry))) ⌝ }
 {
     let g = mode::tag_block(t, w, powers, m, p);
     match place {
@@ -175,7 +178,7 @@ fn mend_in(
     scratch: &mut [u8],
 ) -> Judged
     requires { ⌜ Ready (now t) (now w) (now powers) m × Within s i (length (now local)) (length (now tags)) (length (now remote)) × (length (now plain) ≡ s) × (length (now sum) ≡ s) × (length (now scratch) ≡ s) ⌝ }
-    ensures { λ r. ⌜ lateOutcome (schemeOf (now (w .entry)) (now (powers .entry))) (value (m .tweak)) s i (C.triple (now (local .entry)) (now (tags .entry)) (now (remote .entry))) W.mend ≡ (judgedNumber r, C.triple (now (local .exit)) (now (tags .exit)) (now (remote .exit))) ⌝ }
+    ensures { λ r. ⌜ lateOutcome (schemeOf (now (w .entry)) (now (powers .entry))) (value (m .tweak)) s i (triple (now (local .entry)) (now (tags .entry)) (now (remote .entry))) W.mend ≡ (judgedNumber r, triple (now (local .exit)) (now (tags .exit)) (now (remote .exit))) ⌝ }
 {
     let judged = images::judge_part(
         t,
@@ -210,8 +213,8 @@ fn read_checked(
     remote: &[u8],
     out: &mut [u8],
 ) -> Judged
-    requires { ⌜ (length (now key) ≡ 32) × Within s i (length (now local)) (length (now tags)) (length (now remote)) × (length (now out) ≡ s) ⌝ }
-    ensures { λ r. ⌜ verdictOutcome (judge (mirror (C.key (now (key .entry)))) i (placesOf s i (now (local .entry)) (now (tags .entry)) (now (remote .entry)))) (now (out .entry)) ≡ (judgedNumber r, now (out .exit)) ⌝ }
+    requires { ⌜ (isKey (keyFrom (now key)) ≡ true) × Within s i (length (now local)) (length (now tags)) (length (now remote)) × (length (now out) ≡ s) ⌝ }
+    ensures { λ r. ⌜ verdictOutcome (judge (mirror (keyFrom (now (key .entry)))) i (placesOf s i (now (local .entry)) (now (tags .entry)) (now (remote .entry)))) (now (out .entry)) ≡ (judgedNumber r, now (out .exit)) ⌝ }
 {
     let t = aes::table();
     let k = mode::prepare(&t, key);
@@ -244,8 +247,8 @@ fn first_checked(
     tags: &[u8],
     remote: &[u8],
 ) -> Done
-    requires { ⌜ (length (now key) ≡ 32) × Within (length (now p)) i (length (now local)) (length (now tags)) (length (now remote)) ⌝ }
-    ensures { λ r. ⌜ lateOutcome (mirror (C.key (now (key .entry)))) i (length (now (p .entry))) i (C.triple (now (local .entry)) (now (tags .entry)) (now (remote .entry))) (W.first (now (p .entry))) ≡ (doneNumber r, C.triple (now (local .exit)) (now (tags .entry)) (now (remote .entry))) ⌝ }
+    requires { ⌜ (isKey (keyFrom (now key)) ≡ true) × Within (length (now p)) i (length (now local)) (length (now tags)) (length (now remote)) ⌝ }
+    ensures { λ r. ⌜ lateOutcome (mirror (keyFrom (now (key .entry)))) i (length (now (p .entry))) i (triple (now (local .entry)) (now (tags .entry)) (now (remote .entry))) (W.first (now (p .entry))) ≡ (doneNumber r, triple (now (local .exit)) (now (tags .entry)) (now (remote .entry))) ⌝ }
 {
     let t = aes::table();
     let k = mode::prepare(&t, key);
@@ -280,8 +283,8 @@ fn second_checked(
     tags: &mut [u8],
     remote: &[u8],
 ) -> Done
-    requires { ⌜ (length (now key) ≡ 32) × Within (length (now p)) i (length (now local)) (length (now tags)) (length (now remote)) ⌝ }
-    ensures { λ r. ⌜ lateOutcome (mirror (C.key (now (key .entry)))) i (length (now (p .entry))) i (C.triple (now (local .entry)) (now (tags .entry)) (now (remote .entry))) (W.second (now (p .entry))) ≡ (doneNumber r, C.triple (now (local .entry)) (now (tags .exit)) (now (remote .entry))) ⌝ }
+    requires { ⌜ (isKey (keyFrom (now key)) ≡ true) × Within (length (now p)) i (length (now local)) (length (now tags)) (length (now remote)) ⌝ }
+    ensures { λ r. ⌜ lateOutcome (mirror (keyFrom (now (key .entry)))) i (length (now (p .entry))) i (triple (now (local .entry)) (now (tags .entry)) (now (remote .entry))) (W.second (now (p .entry))) ≡ (doneNumber r, triple (now (local .entry)) (now (tags .exit)) (now (remote .entry))) ⌝ }
 {
     let t = aes::table();
     let k = mode::prepare(&t, key);
@@ -312,8 +315,8 @@ fn third_checked(
     tags: &[u8],
     remote: &mut [u8],
 ) -> Done
-    requires { ⌜ (length (now key) ≡ 32) × Within (length (now p)) i (length (now local)) (length (now tags)) (length (now remote)) ⌝ }
-    ensures { λ r. ⌜ lateOutcome (mirror (C.key (now (key .entry)))) i (length (now (p .entry))) i (C.triple (now (local .entry)) (now (tags .entry)) (now (remote .entry))) (W.third (now (p .entry))) ≡ (doneNumber r, C.triple (now (local .entry)) (now (tags .entry)) (now (remote .exit))) ⌝ }
+    requires { ⌜ (isKey (keyFrom (now key)) ≡ true) × Within (length (now p)) i (length (now local)) (length (now tags)) (length (now remote)) ⌝ }
+    ensures { λ r. ⌜ lateOutcome (mirror (keyFrom (now (key .entry)))) i (length (now (p .entry))) i (triple (now (local .entry)) (now (tags .entry)) (now (remote .entry))) (W.third (now (p .entry))) ≡ (doneNumber r, triple (now (local .entry)) (now (tags .entry)) (now (remote .exit))) ⌝ }
 {
     let t = aes::table();
     let k = mode::prepare(&t, key);
@@ -344,8 +347,8 @@ fn blank_checked(
     tags: &mut [u8],
     remote: &mut [u8],
 )
-    requires { ⌜ (length (now key) ≡ 32) × Within (length (now p)) i (length (now local)) (length (now tags)) (length (now remote)) ⌝ }
-    ensures { λ _. ⌜ C.triple (now (local .exit)) (now (tags .exit)) (now (remote .exit)) ≡ sealInto (mirror (C.key (now (key .entry)))) i (length (now (p .entry))) i (now (p .entry)) allPlaces (C.triple (now (local .entry)) (now (tags .entry)) (now (remote .entry))) ⌝ }
+    requires { ⌜ (isKey (keyFrom (now key)) ≡ true) × Within (length (now p)) i (length (now local)) (length (now tags)) (length (now remote)) ⌝ }
+    ensures { λ _. ⌜ triple (now (local .exit)) (now (tags .exit)) (now (remote .exit)) ≡ sealInto (mirror (keyFrom (now (key .entry)))) i (length (now (p .entry))) i (now (p .entry)) allPlaces (triple (now (local .entry)) (now (tags .entry)) (now (remote .entry))) ⌝ }
 {
     let t = aes::table();
     let k = mode::prepare(&t, key);
@@ -363,8 +366,8 @@ fn mend_checked(
     tags: &mut [u8],
     remote: &mut [u8],
 ) -> Judged
-    requires { ⌜ (length (now key) ≡ 32) × Within s i (length (now local)) (length (now tags)) (length (now remote)) ⌝ }
-    ensures { λ r. ⌜ lateOutcome (mirror (C.key (now (key .entry)))) i s i (C.triple (now (local .entry)) (now (tags .entry)) (now (remote .entry))) W.mend ≡ (judgedNumber r, C.triple (now (local .exit)) (now (tags .exit)) (now (remote .exit))) ⌝ }
+    requires { ⌜ (isKey (keyFrom (now key)) ≡ true) × Within s i (length (now local)) (length (now tags)) (length (now remote)) ⌝ }
+    ensures { λ r. ⌜ lateOutcome (mirror (keyFrom (now (key .entry)))) i s i (triple (now (local .entry)) (now (tags .entry)) (now (remote .entry))) W.mend ≡ (judgedNumber r, triple (now (local .exit)) (now (tags .exit)) (now (remote .exit))) ⌝ }
 {
     let t = aes::table();
     let k = mode::prepare(&t, key);
@@ -401,9 +404,18 @@ pub fn first_stage(
     tags: &[u8],
     remote: &[u8],
 ) -> Done
-    ensures { λ r. ⌜ outcome mirror (C.triple (now (local .entry)) (now (tags .entry)) (now (remote .entry))) (args (C.key (now (key .entry))) s n i) (W.first (now (p .entry))) ≡ (doneNumber r, C.triple (now (local .exit)) (now (tags .entry)) (now (remote .entry))) ⌝ }
+    ensures { λ r. ⌜ outcome mirror (triple (now (local .entry)) (now (tags .entry)) (now (remote .entry))) (args (keyFrom (now (key .entry))) s n i) (W.first (now (p .entry))) ≡ (doneNumber r, triple (now (local .exit)) (now (tags .entry)) (now (remote .entry))) ⌝ }
 {
-    let checked = history::check_with(key, s, n, i, local.len(), tags.len(), remote.len(), p.len());
+    let checked = answers::check_sector_and_length(
+        key,
+        s,
+        n,
+        i,
+        local.len(),
+        tags.len(),
+        remote.len(),
+        p.len(),
+    );
     match checked {
         Done::Done => first_checked(key, p, i, local, tags, remote),
         Done::Refused(f) => Done::Refused(f),
@@ -421,9 +433,18 @@ pub fn second_stage(
     tags: &mut [u8],
     remote: &[u8],
 ) -> Done
-    ensures { λ r. ⌜ outcome mirror (C.triple (now (local .entry)) (now (tags .entry)) (now (remote .entry))) (args (C.key (now (key .entry))) s n i) (W.second (now (p .entry))) ≡ (doneNumber r, C.triple (now (local .entry)) (now (tags .exit)) (now (remote .entry))) ⌝ }
+    ensures { λ r. ⌜ outcome mirror (triple (now (local .entry)) (now (tags .entry)) (now (remote .entry))) (args (keyFrom (now (key .entry))) s n i) (W.second (now (p .entry))) ≡ (doneNumber r, triple (now (local .entry)) (now (tags .exit)) (now (remote .entry))) ⌝ }
 {
-    let checked = history::check_with(key, s, n, i, local.len(), tags.len(), remote.len(), p.len());
+    let checked = answers::check_sector_and_length(
+        key,
+        s,
+        n,
+        i,
+        local.len(),
+        tags.len(),
+        remote.len(),
+        p.len(),
+    );
     match checked {
         Done::Done => second_checked(key, p, i, local, tags, remote),
         Done::Refused(f) => Done::Refused(f),
@@ -441,9 +462,18 @@ pub fn third_stage(
     tags: &[u8],
     remote: &mut [u8],
 ) -> Done
-    ensures { λ r. ⌜ outcome mirror (C.triple (now (local .entry)) (now (tags .entry)) (now (remote .entry))) (args (C.key (now (key .entry))) s n i) (W.third (now (p .entry))) ≡ (doneNumber r, C.triple (now (local .entry)) (now (tags .entry)) (now (remote .exit))) ⌝ }
+    ensures { λ r. ⌜ outcome mirror (triple (now (local .entry)) (now (tags .entry)) (now (remote .entry))) (args (keyFrom (now (key .entry))) s n i) (W.third (now (p .entry))) ≡ (doneNumber r, triple (now (local .entry)) (now (tags .entry)) (now (remote .exit))) ⌝ }
 {
-    let checked = history::check_with(key, s, n, i, local.len(), tags.len(), remote.len(), p.len());
+    let checked = answers::check_sector_and_length(
+        key,
+        s,
+        n,
+        i,
+        local.len(),
+        tags.len(),
+        remote.len(),
+        p.len(),
+    );
     match checked {
         Done::Done => third_checked(key, p, i, local, tags, remote),
         Done::Refused(f) => Done::Refused(f),
@@ -461,9 +491,9 @@ pub fn read(
     remote: &[u8],
     out: &mut [u8],
 ) -> Judged
-    ensures { λ r. ⌜ readOutcome mirror (C.triple (now (local .entry)) (now (tags .entry)) (now (remote .entry))) (args (C.key (now (key .entry))) s n i) (now (out .entry)) ≡ (judgedNumber r, now (out .exit)) ⌝ }
+    ensures { λ r. ⌜ readOutcome mirror (triple (now (local .entry)) (now (tags .entry)) (now (remote .entry))) (args (keyFrom (now (key .entry))) s n i) (now (out .entry)) ≡ (judgedNumber r, now (out .exit)) ⌝ }
 {
-    let checked = history::check_with(
+    let checked = answers::check_sector_and_length(
         key,
         s,
         n,
@@ -489,9 +519,9 @@ pub fn mend(
     tags: &mut [u8],
     remote: &mut [u8],
 ) -> Judged
-    ensures { λ r. ⌜ outcome mirror (C.triple (now (local .entry)) (now (tags .entry)) (now (remote .entry))) (args (C.key (now (key .entry))) s n i) W.mend ≡ (judgedNumber r, C.triple (now (local .exit)) (now (tags .exit)) (now (remote .exit))) ⌝ }
+    ensures { λ r. ⌜ outcome mirror (triple (now (local .entry)) (now (tags .entry)) (now (remote .entry))) (args (keyFrom (now (key .entry))) s n i) W.mend ≡ (judgedNumber r, triple (now (local .exit)) (now (tags .exit)) (now (remote .exit))) ⌝ }
 {
-    let checked = history::check(key, s, n, i, local.len(), tags.len(), remote.len());
+    let checked = answers::check_sector(key, s, n, i, local.len(), tags.len(), remote.len());
     match checked {
         Done::Done => mend_checked(key, s, i, local, tags, remote),
         Done::Refused(f) => Judged::Refused(f),
@@ -508,9 +538,9 @@ pub fn blank(
     tags: &mut [u8],
     remote: &mut [u8],
 ) -> Done
-    ensures { λ r. ⌜ outcome mirror (C.triple (now (local .entry)) (now (tags .entry)) (now (remote .entry))) (args (C.key (now (key .entry))) s n i) W.blank ≡ (doneNumber r, C.triple (now (local .exit)) (now (tags .exit)) (now (remote .exit))) ⌝ }
+    ensures { λ r. ⌜ outcome mirror (triple (now (local .entry)) (now (tags .entry)) (now (remote .entry))) (args (keyFrom (now (key .entry))) s n i) W.blank ≡ (doneNumber r, triple (now (local .exit)) (now (tags .exit)) (now (remote .exit))) ⌝ }
 {
-    let checked = history::check(key, s, n, i, local.len(), tags.len(), remote.len());
+    let checked = answers::check_sector(key, s, n, i, local.len(), tags.len(), remote.len());
     match checked {
         Done::Done => {
             let zeros = [0u8; 4096];

@@ -1,8 +1,9 @@
 use mathlib.Core.Path.{ap, _∙_}
 use native.Mathlib.Omega.{arith}
 use Prim.Native.Nat.{ℕ}
-use Rattle.verdict.specs.Answers.{firstOf, doneOption}
-use Rattle.verdict.proofs.Rules.{check-passed, check-refused}
+use Rattle.answers.specs.Answers.{doneOption}
+use Rattle.answers.specs.Rules.{firstOf}
+use Rattle.answers.proofs.Rules.{check-passed, check-refused}
 use Rattle.frame.specs.Frame.{together, kindRules, sectorRules}
 use Rattle.frame.proofs.Refusals.{beside-fits, together-is}
 use borrow.Author.Needs.{needs}

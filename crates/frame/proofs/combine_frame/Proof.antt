@@ -1,5 +1,5 @@
 use mathlib.Core.Path.{ap}
-use Rattle.verdict.specs.Answers.{doneNumber}
+use Rattle.answers.specs.Answers.{doneNumber}
 use Rattle.frame.proofs.Frames.{combined-is}
 use borrow.Author.Needs.{needs}
 use Rattle.frame.proofs.combine_frame.Statement.{statement}

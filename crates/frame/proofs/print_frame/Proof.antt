@@ -2,7 +2,7 @@ use mathlib.Core.Path.{ap, _∙_}
 use Prim.Native.Nat.{ℕ}
 use native.Mathlib.Omega.{arith}
 use lib.ListN.{replicate}
-use Rattle.verdict.specs.Answers.{doneOption}
+use Rattle.answers.specs.Answers.{doneOption}
 use Rattle.frame.specs.Frame.{called, answered, shown}
 use Rattle.frame.proofs.Frames.{reprint}
 use Rattle.frame.proofs.Refusals.{accepted, half-is, frame-passes, frame-refused}

@@ -1,7 +1,7 @@
 use mathlib.Core.Path.{ap, _∙_}
 use native.Mathlib.Omega.{arith}
 use lib.ListN.{length}
-use Rattle.verdict.specs.Answers.{doneOption}
+use Rattle.answers.specs.Answers.{doneOption}
 use Rattle.frame.proofs.Frames.{reprint}
 use Rattle.frame.proofs.Refusals.{line-refused, half-within, frame-long, frame-room}
 use borrow.Author.Needs.{needs}

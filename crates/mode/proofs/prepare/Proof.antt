@@ -1,15 +1,17 @@
 use mathlib.Core.Path.{refl}
 use Rattle.block.specs.Value.{value}
+use Rattle.mode.specs.Sealing.{keyFrom}
 use Rattle.mode.proofs.Laws.{round-keys-are, hash-key-is}
+use Rattle.mode.proofs.Sizes.{key-size}
 use borrow.Author.Needs.{needs}
 use Rattle.mode.proofs.prepare.Statement.{statement}
 use Rattle.mode.proofs.prepare.Tie as tie
 
 sub-expand : tie.Need-sub-expand
-sub-expand c = search needs
+sub-expand c = let size = key-size _ (c .before .pre .1) in search needs
 
 part-expand-start : tie.Need-part-expand-start
-part-expand-start c = search needs
+part-expand-start c = let size = key-size _ (c .before .pre .1) in search needs
 
 part-expand-end : tie.Need-part-expand-end
 part-expand-end c = search needs
@@ -18,10 +20,10 @@ slice-aggregate-expand : tie.Need-slice-aggregate-expand
 slice-aggregate-expand c = search needs
 
 expand-requires : tie.Need-expand-requires
-expand-requires c κs = search needs
+expand-requires c κs = let size = key-size _ (c .before .before .before .pre .1) in search needs
 
 load-requires : tie.Need-load-requires
-load-requires c κs = search needs
+load-requires c κs = let size = key-size _ (c .before .before .before .before .before .pre .1) in search needs
 
 powers-requires : tie.Need-powers-requires
 powers-requires c κs = search needs
@@ -41,11 +43,13 @@ encrypt-requires-2 c κs = search needs
 returns : tie.Need-returns
 unfolding value
 returns c =
-    let k = c .before .before .before .before .before .before .before .before .before .before .before .args .key .now in
+    let start = c .before .before .before .before .before .before .before .before .before .before .before in
+    let k = start .args .key .now in
+    let size = key-size (keyFrom k) (start .pre .1) in
     record {
-      round-keys = round-keys-are k (c .before .before .before .before .before .before .before .before .before .before .before .pre .1) _ refl (c .before .before .before .before .before .before .before .expand .ensures);
+      round-keys = round-keys-are k size _ refl (c .before .before .before .before .before .before .before .expand .ensures);
       rounds = search needs;
-      hash-key = hash-key-is k (c .before .before .before .before .before .before .before .before .before .before .before .pre .1) (c .before .before .before .before .powers .ensures .0) (c .before .before .before .before .before .load .ensures);
+      hash-key = hash-key-is k size (c .before .before .before .before .powers .ensures .0) (c .before .before .before .before .before .load .ensures);
       powers = c .before .before .before .before .powers .ensures .1;
       alpha = c .before .before .encrypt .ensures;
       beta = c .encrypt2 .ensures;

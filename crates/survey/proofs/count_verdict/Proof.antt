@@ -3,8 +3,8 @@ use mathlib.Core.List.{List, [], _∷_}
 use Prim.Native.Nat.{ℕ}
 use denote.Enum.Declared.{tagOf}
 use types.Run.{OneOf, miss}
-use Rattle.verdict.specs.declared.Refusal.{Refusal}
-use Rattle.verdict.proofs.Refusal.{the-type}
+use Rattle.answers.specs.declared.Refusal.{Refusal}
+use Rattle.answers.proofs.Refusal.{the-type}
 use native.Mathlib.Numerals.{add-one}
 use Rattle.survey.proofs.Surveying.{tells-whole, tells-doubtful, tells-lost, tells-clashing, counts-one}
 use borrow.Author.Needs.{needs}

@@ -3,8 +3,8 @@ use borrow.Author.Needs.{needs}
 use Rattle.volume.proofs.blank.Statement.{statement}
 use Rattle.volume.proofs.blank.Tie as tie
 
-check-requires : tie.Need-check-requires
-check-requires c κs = search needs
+check-sector-requires : tie.Need-check-sector-requires
+check-sector-requires c κs = search needs
 
 enum-told : tie.Need-enum-told
 enum-told c = search needs
@@ -18,7 +18,7 @@ slice-aggregate-blank-checked c = search (needs, prefix-size, blank-size)
 blank-checked-requires : tie.Need-blank-checked-requires
 blank-checked-requires c κs =
     let a = c .before .before .before .before .before .before .before .before .before .before .before .args in
-    let checks = c .before .before .before .before .before .before .check .ensures in
+    let checks = c .before .before .before .before .before .before .check-sector .ensures in
     let passed = c .before .before .before .before .enum-told .given .1 in
     blank-within (a .key .now) (a .s) (a .n) (a .i) (a .local .now) (a .tags .now) (a .remote .now) checks passed (prefix-size (a .s) _ (blank-size (a .key .now) (a .s) (a .n) (a .i) (a .local .now) (a .tags .now) (a .remote .now) checks passed))
 
@@ -44,7 +44,7 @@ pub blank-spec : {M : Type 1} → statement M
 blank-spec =
     tie.close
     (tie.spec
-    check-requires
+    check-sector-requires
     enum-told
     array-share-prefix-zeros
     slice-aggregate-blank-checked

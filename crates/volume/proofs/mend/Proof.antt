@@ -4,8 +4,8 @@ use borrow.Author.Needs.{needs}
 use Rattle.volume.proofs.mend.Statement.{statement}
 use Rattle.volume.proofs.mend.Tie as tie
 
-check-requires : tie.Need-check-requires
-check-requires c κs = search needs
+check-sector-requires : tie.Need-check-sector-requires
+check-sector-requires c κs = search needs
 
 enum-told : tie.Need-enum-told
 enum-told c = search needs
@@ -35,7 +35,7 @@ pub mend-spec : {M : Type 1} → statement M
 mend-spec =
     tie.close
     (tie.spec
-    check-requires
+    check-sector-requires
     enum-told
     mend-checked-requires
     enum-known-checked

@@ -3,8 +3,8 @@ use borrow.Author.Needs.{needs}
 use Rattle.volume.proofs.read.Statement.{statement}
 use Rattle.volume.proofs.read.Tie as tie
 
-check-with-requires : tie.Need-check-with-requires
-check-with-requires c κs = search needs
+check-sector-and-length-requires : tie.Need-check-sector-and-length-requires
+check-sector-and-length-requires c κs = search needs
 
 enum-told : tie.Need-enum-told
 enum-told c = search needs
@@ -28,7 +28,7 @@ pub read-spec : {M : Type 1} → statement M
 read-spec =
     tie.close
     (tie.spec
-    check-with-requires
+    check-sector-and-length-requires
     enum-told
     read-checked-requires
     enum-known-checked
