@@ -1,6 +1,2 @@
-pub mod Bytes
 pub mod Words
 pub mod Rounds
-pub mod Schedule
-pub mod Facts
-pub mod Bounds

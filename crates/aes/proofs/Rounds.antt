@@ -8,10 +8,10 @@ use lib.ListN.{length, getD}
 use Rattle.block.specs.Bytes.{fromBytes, toBytes, xorBytes}
 use Rattle.block.proofs.Bits.{xor-assoc}
 use Rattle.block.proofs.Numbers.{to-from, toBytes-xor}
+use Rattle.fips197.specs.Aes.{_⊕_, sBox, sBoxTable, subBytes, shiftRows, mixColumn, mixColumns, addRoundKey, rounds, rotate}
+use Rattle.fips197.proofs.Bytes.{length-tabulate, tabulate-at, double-lt, triple-lt, sBox-lt}
 use Rattle.aes.specs.declared.Columns.{Columns}
-use Rattle.aes.specs.Aes.{_⊕_, sBox, sBoxTable, subBytes, shiftRows, mixColumn, mixColumns, addRoundKey, rounds, rotate}
 use Rattle.aes.specs.Columns.{stateOf, sub, lastColumn, roundColumn, EachColumn, mixRows, roundTable}
-use Rattle.aes.proofs.Bytes.{length-tabulate, tabulate-at, double-lt, triple-lt, sBox-lt}
 
 -- ---- what stands in the table
 

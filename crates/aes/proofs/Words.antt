@@ -11,7 +11,7 @@ use lib.ListN.{length, getD, take, drop, length-drop}
 use lib.Seq.{getD-drop, take-at, drop-at}
 use Rattle.block.specs.Bytes.{fromBytes, toBytes, part}
 use Rattle.block.proofs.Numbers.{length-toBytes, toBytes-append, toBytes-low, toBytes-two, from-to}
-use Rattle.aes.specs.Aes.{rotate}
+use Rattle.fips197.specs.Aes.{rotate}
 use Rattle.aes.specs.Columns.{stateOf}
 
 -- ---- a rotation

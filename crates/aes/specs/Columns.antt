@@ -4,8 +4,8 @@ use mathlib.Core.Path.{_≡_}
 use mathlib.Core.List.{List, [], _∷_, _++_}
 use lib.ListN.{getD}
 use Rattle.block.specs.Bytes.{fromBytes, toBytes, xorBytes}
+use Rattle.fips197.specs.Aes.{_•_, sBox, mixColumn, tabulate}
 use Rattle.aes.specs.declared.Columns.{Columns}
-use Rattle.aes.specs.Aes.{_•_, sBox, mixColumn, tabulate}
 
 unfoldable pub stateOf : Columns → List ℕ
 stateOf s = toBytes 4 (s .c0) ++ toBytes 4 (s .c1) ++ toBytes 4 (s .c2) ++ toBytes 4 (s .c3)

@@ -5,7 +5,7 @@ ghost use mathlib.Core.Path.{_≡_};
 ghost use Prim.Native.Nat.{_+_, _*_, _^_, _≤_};
 ghost use lib.ListN.{length};
 ghost use Rattle.block.specs.Value.{value};
-ghost use Rattle.aes.specs.Aes.{expand, cipherNumber};
+ghost use Rattle.fips197.specs.Aes.{expand, cipherNumber};
 ghost use Rattle.aes.specs.Columns.{roundTable};
 ghost use Rattle.hash.specs.Powers.{keyOf, Powers};
 ghost use Rattle.bench.specs.Chain.{iterate, folded, product, hashed};

@@ -4,7 +4,7 @@ use mathlib.Core.Bool.{Bool}
 use mathlib.Core.List.{List}
 use Prim.Native.Nat.{ℕ}
 use Rattle.block.specs.Bytes.{toBytes, blocksOf, same}
-use Rattle.aes.specs.Aes.{cipherNumber}
+use Rattle.fips197.specs.Aes.{cipherNumber}
 use Rattle.hash.specs.Powers.{keyOf}
 use Rattle.mode.specs.declared.Direction.the-variants.{SealLocal, SealRemote}
 use Rattle.mode.specs.Scheme.{Place, local, tag, remote, on, dcm}

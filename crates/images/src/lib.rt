@@ -9,7 +9,7 @@ ghost use Prim.Native.Nat.{_+_, _*_, _<_, _≤_, _%_};
 ghost use lib.ListN.{length};
 ghost use Rattle.block.specs.Bytes.{toBytes, blocksOf, part, patch, same};
 ghost use Rattle.block.specs.Value.{value};
-ghost use Rattle.aes.specs.Aes.{cipherNumber};
+ghost use Rattle.fips197.specs.Aes.{cipherNumber};
 ghost use Rattle.aes.specs.Columns.{roundTable};
 ghost use Rattle.mode.specs.Prepared.{Ready};
 ghost use Rattle.mode.specs.declared.Direction.the-variants.{SealLocal};

@@ -5,8 +5,8 @@ use Prim.Native.Nat.{ℕ, _+_, _/_}
 use native.Mathlib.Omega.{arith}
 use lib.Dec.{lit≤}
 use lib.ListN.{length, length-drop, length-take}
-use Rattle.aes.specs.Aes.{expand, roundsOf}
-use Rattle.aes.proofs.Facts.{aes-facts}
+use Rattle.fips197.specs.Aes.{expand, roundsOf}
+use Rattle.fips197.proofs.Facts.{aes-facts}
 use Rattle.mode.specs.Sealing.{Key, cipherKey, roundKeys}
 use Rattle.mode.specs.Scheme.{isKey}
 use Rattle.mode.specs.KeyFacts.{KeyFacts}

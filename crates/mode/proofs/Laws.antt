@@ -15,8 +15,8 @@ use Rattle.block.proofs.Field.{mul-lt, mul-two-l, mul-three-l, x-inverse, x⁻�
 use Rattle.block.proofs.Lists.{xor-bytes-comm, xor-bytes-cancel}
 use Rattle.block.proofs.Numbers.{number-append, from-to, bytes-toBytes, length-toBytes}
 use Rattle.hash.specs.Brw.{brw}
-use Rattle.aes.specs.Aes.{expand, cipherNumber}
-use Rattle.aes.proofs.Bounds.{cipher-lt}
+use Rattle.fips197.specs.Aes.{expand, cipherNumber}
+use Rattle.fips197.proofs.Bounds.{cipher-lt}
 use Rattle.mode.specs.Sealing.{cipherKey, roundKeys, hashKey, tweak, timesX, blockwise, tagBlock, pad, localBlock, remoteBlock, openLocalBlock, openRemoteBlock, sides, sealedBy}
 use Rattle.mode.specs.Scheme.{Place, local, tag, remote, on, wide, Lawful, Sound, dcm, scheme}
 use Rattle.mode.proofs.Sizes.{size-whole}

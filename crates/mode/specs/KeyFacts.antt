@@ -2,7 +2,7 @@
 use mathlib.Core.Path.{_≡_}
 use mathlib.Core.Bool.{true}
 use lib.ListN.{length}
-use Rattle.aes.specs.Aes.{expand, roundsOf}
+use Rattle.fips197.specs.Aes.{expand, roundsOf}
 use Rattle.mode.specs.Sealing.{Key, cipherKey, roundKeys}
 use Rattle.mode.specs.Scheme.{isKey}
 

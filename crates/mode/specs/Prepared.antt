@@ -4,7 +4,7 @@ use mathlib.Core.List.{List}
 use Prim.Native.Nat.{ℕ, _≤_}
 use lib.ListN.{length}
 use Rattle.block.specs.Value.{value}
-use Rattle.aes.specs.Aes.{cipherNumber}
+use Rattle.fips197.specs.Aes.{cipherNumber}
 use Rattle.aes.specs.Columns.{roundTable}
 use Rattle.hash.specs.Powers.{keyOf, Powers}
 use Rattle.mode.specs.declared.Context.{Context}

@@ -7,7 +7,7 @@ use Prim.Native.Nat.{ℕ, _%_}
 use lib.Dec.{eqb, leb}
 use lib.ListN.{length}
 use Rattle.block.specs.Bytes.{Plain, fromBytes, blocksOf, xorBytes}
-use Rattle.aes.specs.Aes.{cipherNumber}
+use Rattle.fips197.specs.Aes.{cipherNumber}
 use Rattle.mode.specs.Sealing.{Key, Triple, hashKey, roundKeys, blockwise, openLocalBlock, openRemoteBlock, sealedBy}
 
 -- ---- places

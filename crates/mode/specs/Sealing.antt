@@ -6,7 +6,7 @@ use lib.ListN.{length, take, drop, replicate}
 use lib.Bits.{bitXor}
 use Rattle.block.specs.Bytes.{fromBytes, toBytes, blocksOf}
 use Rattle.block.specs.Field.{double, mul, x⁻¹, 1⊕x⁻¹}
-use Rattle.aes.specs.Aes.{expand, cipherNumber}
+use Rattle.fips197.specs.Aes.{expand, cipherNumber}
 use Rattle.hash.specs.Brw.{brw}
 
 -- ---- the key and the tweak

@@ -7,7 +7,7 @@ ghost use Prim.Native.Nat.{_≤_, _%_};
 ghost use lib.ListN.{length};
 ghost use Rattle.block.specs.Bytes.{blocksOf};
 ghost use Rattle.block.specs.Value.{value};
-ghost use Rattle.aes.specs.Aes.{cipherNumber};
+ghost use Rattle.fips197.specs.Aes.{cipherNumber};
 ghost use Rattle.aes.specs.Columns.{roundTable};
 ghost use Rattle.hash.specs.Powers.{keyOf};
 ghost use Rattle.mode.specs.Scheme.{isKey};

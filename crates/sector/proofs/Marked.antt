@@ -14,9 +14,9 @@ use Rattle.block.proofs.Blocks.{blocksOf-cons}
 use Rattle.block.proofs.Field.{field-laws}
 use Rattle.block.proofs.Lists.{bytes-append, bytes-take}
 use Rattle.block.proofs.Numbers.{block-lt, bytes-toBytes, from-to, length-toBytes}
-use Rattle.aes.specs.Aes.{cipherNumber}
-use Rattle.aes.proofs.Bounds.{cipher-lt}
-use Rattle.aes.proofs.Facts.{aes-facts}
+use Rattle.fips197.specs.Aes.{cipherNumber}
+use Rattle.fips197.proofs.Bounds.{cipher-lt}
+use Rattle.fips197.proofs.Facts.{aes-facts}
 use Rattle.hash.specs.Brw.{brw}
 use Rattle.hash.proofs.BrwLaws.{hash-facts}
 use Rattle.mode.specs.Sealing.{Key, Triple, hashKey, roundKeys, tweak, tagBlock, pad, localBlock, remoteBlock, sides, sealedBy, triple}

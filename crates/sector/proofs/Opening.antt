@@ -7,7 +7,7 @@ use Prim.Native.Nat.{ℕ}
 use lib.ListN.{length, take, drop}
 use Rattle.block.specs.Bytes.{fromBytes, blocksOf, same}
 use Rattle.block.specs.Value.{value}
-use Rattle.aes.specs.Aes.{cipherNumber}
+use Rattle.fips197.specs.Aes.{cipherNumber}
 use Rattle.aes.specs.Columns.{roundTable}
 use Rattle.mode.specs.declared.Context.{Context}
 use Rattle.mode.specs.declared.Direction.{Direction}

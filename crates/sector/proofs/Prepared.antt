@@ -6,7 +6,7 @@ use native.Mathlib.Nat.{le-of-eq}
 use lib.ListN.{length, take, drop, drop-of-length-le}
 use Rattle.block.specs.Bytes.{toBytes}
 use Rattle.block.specs.Value.{value}
-use Rattle.aes.specs.Aes.{cipherNumber}
+use Rattle.fips197.specs.Aes.{cipherNumber}
 use Rattle.aes.specs.Columns.{roundTable}
 use Rattle.hash.specs.Powers.{keyOf}
 use Rattle.mode.specs.declared.Context.{Context}

@@ -5,7 +5,7 @@ use Prim.Native.Nat.{ℕ, _^_, _<_}
 use lib.ListN.{getD}
 use Rattle.block.specs.Bytes.{Plain, toBytes}
 use Rattle.block.specs.Field.{mul}
-use Rattle.aes.specs.Aes.{sBoxTable}
+use Rattle.fips197.specs.Aes.{sBoxTable}
 use Rattle.hash.specs.Brw.{brw}
 use Rattle.mode.specs.Sealing.{Key, hashKey, tweak, localBlock, remoteBlock, triple}
 use Rattle.mode.specs.Scheme.{Scheme, dcm, scheme}

@@ -5,7 +5,7 @@ use libc::STDOUT_FILENO;
 ghost use mathlib.Core.Path.{_≡_};
 ghost use lib.ListN.{length};
 ghost use Rattle.block.specs.Value.{value};
-ghost use Rattle.aes.specs.Aes.{expand, cipherNumber};
+ghost use Rattle.fips197.specs.Aes.{expand, cipherNumber};
 
 fn encrypted(key: &[u8], b: Block) -> Block
     requires { ⌜ length (now key) ≡ 16 ⌝ }

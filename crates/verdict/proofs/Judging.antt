@@ -8,8 +8,8 @@ use lib.ListN.{length, take, drop}
 use Rattle.block.specs.Bytes.{Bytes, Plain, fromBytes, blocksOf, xorBytes, same}
 use Rattle.block.specs.Value.{value}
 use Rattle.block.proofs.Lists.{same-eq, ne-same}
-use Rattle.aes.specs.Aes.{cipherNumber}
-use Rattle.aes.proofs.Bounds.{cipher-lt}
+use Rattle.fips197.specs.Aes.{cipherNumber}
+use Rattle.fips197.proofs.Bounds.{cipher-lt}
 use Rattle.hash.specs.Powers.{keyOf}
 use Rattle.mode.specs.declared.Context.{Context}
 use Rattle.mode.specs.declared.Direction.the-variants.{SealRemote}

@@ -8,8 +8,8 @@ use lib.ListN.{length, take, drop}
 use Rattle.block.specs.Bytes.{Bytes, Plain, fromBytes, blocksOf, same}
 use Rattle.block.proofs.Lists.{same-eq, ne-same}
 use Rattle.block.proofs.Numbers.{from-to}
-use Rattle.aes.specs.Aes.{cipherNumber}
-use Rattle.aes.proofs.Bounds.{cipher-lt}
+use Rattle.fips197.specs.Aes.{cipherNumber}
+use Rattle.fips197.proofs.Bounds.{cipher-lt}
 use Rattle.hash.specs.Powers.{keyOf}
 use Rattle.mode.specs.declared.Direction.{Direction}
 use Rattle.mode.specs.Sealing.{blockwise, tagBlock, pad, localBlock, remoteBlock, sides, sealedBy}

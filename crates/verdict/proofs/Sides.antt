@@ -11,8 +11,8 @@ use borrow.Author.Tests.{eqb-true, eqb-false}
 use Rattle.block.specs.Bytes.{Bytes, fromBytes, toBytes, blocksOf, same}
 use Rattle.block.proofs.Lists.{eq-same, same-ne}
 use Rattle.block.proofs.Numbers.{from-to, to-from}
-use Rattle.aes.specs.Aes.{cipherNumber}
-use Rattle.aes.proofs.Bounds.{cipher-lt}
+use Rattle.fips197.specs.Aes.{cipherNumber}
+use Rattle.fips197.proofs.Bounds.{cipher-lt}
 use Rattle.hash.specs.Powers.{keyOf}
 use Rattle.mode.specs.declared.Direction.{Direction}
 use Rattle.mode.specs.Sealing.{blockwise, tagBlock, pad, openLocalBlock, openRemoteBlock, sides, sealedBy}

@@ -7,7 +7,7 @@ use Prim.Native.Nat.{ℕ, _≤_, _%_}
 use lib.ListN.{length}
 use Rattle.block.specs.Bytes.{xorBytes}
 use Rattle.block.specs.Value.{value}
-use Rattle.aes.specs.Aes.{cipherNumber}
+use Rattle.fips197.specs.Aes.{cipherNumber}
 use Rattle.hash.specs.Powers.{keyOf}
 use Rattle.mode.specs.declared.Context.{Context}
 use Rattle.mode.specs.declared.Direction.{Direction}

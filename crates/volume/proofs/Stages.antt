@@ -6,7 +6,7 @@ use Prim.Native.Nat.{ℕ}
 use Rattle.block.specs.Bytes.{part, patch, same}
 use Rattle.block.specs.Value.{value}
 use Rattle.block.proofs.Lists.{and-both}
-use Rattle.aes.specs.Aes.{cipherNumber}
+use Rattle.fips197.specs.Aes.{cipherNumber}
 use Rattle.hash.specs.Powers.{keyOf}
 use Rattle.mode.specs.declared.Context.{Context}
 use Rattle.mode.specs.Scheme.{Place, local, tag, remote, on, wide, Scheme}

@@ -3,7 +3,7 @@ use mathlib.Core.List.{List}
 use Prim.Native.Nat.{ℕ, _-_, _≤_, _<_}
 use native.Mathlib.Omega.{arith}
 use borrow.Author.Needs.{needs}
-use Rattle.aes.specs.Aes.{mixColumns, shiftRows, subBytes, addRoundKey, rounds, cipher, roundsOf}
+use Rattle.fips197.specs.Aes.{mixColumns, shiftRows, subBytes, addRoundKey, rounds, cipher, roundsOf}
 use Rattle.aes.specs.Columns.{stateOf}
 use Rattle.aes.proofs.Rounds.{last-state, round-state, rounds-next}
 use Rattle.aes.proofs.cipher.Statement.{statement}

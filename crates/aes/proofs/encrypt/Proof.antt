@@ -1,6 +1,6 @@
 use mathlib.Core.Path.{ap, _∙_}
 use Rattle.block.specs.Bytes.{fromBytes}
-use Rattle.aes.specs.Aes.{cipher, roundsOf, cipherNumber}
+use Rattle.fips197.specs.Aes.{cipher, roundsOf, cipherNumber}
 use borrow.Author.Needs.{needs}
 use Rattle.aes.proofs.encrypt.Statement.{statement}
 use Rattle.aes.proofs.encrypt.Tie as tie

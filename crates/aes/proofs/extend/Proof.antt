@@ -3,8 +3,8 @@ use Prim.Native.Nat.{_-_, _≤_}
 use native.Mathlib.Omega.{arith}
 use borrow.Author.Needs.{needs}
 use lib.ListN.{length, take, length-set}
-use Rattle.aes.specs.Aes.{extendBy}
-use Rattle.aes.proofs.Schedule.{extend-start, extend-turn, extend-end}
+use Rattle.fips197.specs.Aes.{extendBy}
+use Rattle.fips197.proofs.Schedule.{extend-start, extend-turn, extend-end}
 use Rattle.aes.proofs.extend.Statement.{statement}
 use Rattle.aes.proofs.extend.Tie as tie
 

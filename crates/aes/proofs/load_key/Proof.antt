@@ -4,8 +4,8 @@ use Prim.Native.Nat.{ℕ, _-_, _≤_}
 use native.Mathlib.Omega.{arith}
 use lib.ListN.{length, take, drop, set, length-set}
 use Rattle.block.proofs.Lists.{fill-turn}
-use Rattle.aes.specs.Aes.{keyWords}
-use Rattle.aes.proofs.Schedule.{length-key, key-at, key-loaded}
+use Rattle.fips197.specs.Aes.{keyWords}
+use Rattle.fips197.proofs.Schedule.{length-key, key-at, key-loaded}
 use Rattle.aes.proofs.load_key.Statement.{statement}
 use Rattle.aes.proofs.load_key.Tie as tie
 

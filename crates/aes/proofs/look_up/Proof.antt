@@ -2,7 +2,7 @@ use mathlib.Core.Path.{sym, ap, _∙_}
 use Prim.Native.Nat.{ℕ}
 use native.Mathlib.Omega.{arith}
 use Rattle.block.proofs.Numbers.{toBytes-at}
-use Rattle.aes.specs.Aes.{sBox}
+use Rattle.fips197.specs.Aes.{sBox}
 use Rattle.aes.specs.Columns.{mixRows}
 use Rattle.aes.proofs.Rounds.{entry-rows}
 use borrow.Author.Needs.{needs}

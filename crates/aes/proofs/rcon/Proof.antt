@@ -3,7 +3,7 @@ use mathlib.Core.List.{[], _∷_}
 use Prim.Native.Nat.{ℕ, suc, _+_, _-_, _≤_, _<_}
 use native.Mathlib.Omega.{arith}
 use Rattle.block.specs.Bytes.{fromBytes}
-use Rattle.aes.specs.Aes.{xtime, xpow, rcon}
+use Rattle.fips197.specs.Aes.{xtime, xpow, rcon}
 use Rattle.aes.proofs.rcon.Statement.{statement}
 use Rattle.aes.proofs.rcon.Tie as tie
 

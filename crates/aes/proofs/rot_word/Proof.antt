@@ -1,4 +1,4 @@
-use Rattle.aes.specs.Aes.{rotWord}
+use Rattle.fips197.specs.Aes.{rotWord}
 use Rattle.aes.proofs.Words.{from-four}
 use borrow.Author.Needs.{needs}
 use Rattle.aes.proofs.rot_word.Statement.{statement}

@@ -1,5 +1,5 @@
 use mathlib.Core.Path.{ap, _∙_}
-use Rattle.aes.specs.Aes.{rotate}
+use Rattle.fips197.specs.Aes.{rotate}
 use Rattle.aes.specs.Columns.{roundColumn}
 use Rattle.aes.proofs.Rounds.{round-column}
 use borrow.Author.Needs.{needs}

@@ -1,5 +1,5 @@
 use Rattle.block.specs.Bytes.{toBytes}
-use Rattle.aes.specs.Aes.{subBytes, subWord}
+use Rattle.fips197.specs.Aes.{subBytes, subWord}
 use Rattle.aes.specs.Columns.{lastColumn}
 use Rattle.aes.proofs.Words.{from-four}
 use borrow.Author.Needs.{needs}

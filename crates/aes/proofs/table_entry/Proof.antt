@@ -2,7 +2,7 @@ use mathlib.Core.Path.{sym, ap, _∙_}
 use mathlib.Core.List.{[], _∷_}
 use lib.Bits.{bitXor}
 use Rattle.block.specs.Bytes.{fromBytes}
-use Rattle.aes.proofs.Bytes.{double-is, triple-is}
+use Rattle.fips197.proofs.Bytes.{double-is, triple-is}
 use borrow.Author.Needs.{needs}
 use Rattle.aes.proofs.table_entry.Statement.{statement}
 use Rattle.aes.proofs.table_entry.Tie as tie

@@ -2,7 +2,7 @@ use mathlib.Core.Path.{ap, ap₂, _∙_}
 use mathlib.Core.Logic.{⊎-elim}
 use lib.Bits.{bitXor}
 use borrow.Author.Tests.{eq-eqb, ne-eqb, lt-ltb, le-ltb}
-use Rattle.aes.specs.Aes.{subWord, transform}
+use Rattle.fips197.specs.Aes.{subWord, transform}
 use borrow.Author.Needs.{needs}
 use Rattle.aes.proofs.transform.Statement.{statement}
 use Rattle.aes.proofs.transform.Tie as tie

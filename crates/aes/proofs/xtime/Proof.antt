@@ -1,5 +1,5 @@
 use mathlib.Core.Path.{refl}
-use Rattle.aes.specs.Aes.{xtime}
+use Rattle.fips197.specs.Aes.{xtime}
 use borrow.Author.Needs.{needs}
 use Rattle.aes.proofs.xtime.Statement.{statement}
 use Rattle.aes.proofs.xtime.Tie as tie

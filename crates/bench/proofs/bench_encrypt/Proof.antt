@@ -2,7 +2,7 @@ use mathlib.Core.Path.{ap, _∙_}
 use mathlib.Core.List.{List}
 use Prim.Native.Nat.{ℕ, _/_}
 use Rattle.block.specs.Value.{value}
-use Rattle.aes.specs.Aes.{expand, cipherNumber}
+use Rattle.fips197.specs.Aes.{expand, cipherNumber}
 use Rattle.bench.specs.Chain.{iterate, folded}
 use borrow.Author.Needs.{needs}
 use Rattle.bench.proofs.bench_encrypt.Statement.{statement}

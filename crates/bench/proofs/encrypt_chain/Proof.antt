@@ -2,7 +2,7 @@ use mathlib.Core.Path.{_≡_, refl, sym, _∙_}
 use native.Mathlib.Omega.{arith}
 use borrow.Author.Needs.{needs}
 use Rattle.block.specs.Value.{value}
-use Rattle.aes.specs.Aes.{cipherNumber}
+use Rattle.fips197.specs.Aes.{cipherNumber}
 use Rattle.bench.specs.Chain.{iterate}
 use Rattle.bench.proofs.ChainLaws.{turn, end}
 use Rattle.bench.proofs.encrypt_chain.Statement.{statement}

@@ -5,8 +5,8 @@ use lib.ListN.{length}
 use Rattle.block.specs.Bytes.{Plain, xorBytes}
 use Rattle.block.specs.Value.{value}
 use Rattle.block.proofs.Lists.{bytes-all}
-use Rattle.aes.specs.Aes.{cipherNumber}
-use Rattle.aes.proofs.Bounds.{cipher-lt}
+use Rattle.fips197.specs.Aes.{cipherNumber}
+use Rattle.fips197.proofs.Bounds.{cipher-lt}
 use Rattle.mode.specs.Sealing.{remoteBlock, sides}
 use Rattle.mode.proofs.Laws.{sides-other}
 use borrow.Author.Needs.{needs}

@@ -3,7 +3,7 @@ use Prim.Native.Nat.{ℕ, _+_, _-_, _≤_}
 use native.Mathlib.Omega.{arith}
 use borrow.Author.Needs.{needs}
 use Rattle.block.specs.Value.{value}
-use Rattle.aes.specs.Aes.{cipherNumber}
+use Rattle.fips197.specs.Aes.{cipherNumber}
 use Rattle.mode.specs.Sealing.{timesX, pad}
 use Rattle.mode.specs.Transforms.{transformed}
 use Rattle.mode.proofs.Blockwise.{Written, written-none, written-next, written-all}

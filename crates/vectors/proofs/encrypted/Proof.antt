@@ -3,7 +3,7 @@ use mathlib.Core.List.{List}
 use Prim.Native.Nat.{ℕ, _/_}
 use borrow.Author.Needs.{needs}
 use Rattle.block.specs.Value.{value}
-use Rattle.aes.specs.Aes.{expand, cipherNumber}
+use Rattle.fips197.specs.Aes.{expand, cipherNumber}
 use Rattle.vectors.proofs.encrypted.Statement.{statement}
 use Rattle.vectors.proofs.encrypted.Tie as tie
 

@@ -6,10 +6,10 @@ use native.Mathlib.Nat.{not-suc-le-zero, le-of-suc-le-suc}
 use lib.ListN.{getD, replicate, getD-replicate}
 use Rattle.block.specs.Bytes.{number, fromBytes, toBytes, part}
 use Rattle.block.specs.Field.{times}
-use Rattle.aes.specs.Aes.{tabulate, xtime, mulBits, _•_, squares, inverse, rotateLeft, affine, sBox, sBoxTable, subBytes, shiftRows, mixColumns, addRoundKey, rounds, cipher, cipherNumber, rotWord, subWord, xpow, rcon, transform, nextWord, keyWords, extendBy, expand}
-use Rattle.aes.specs.Facts.{AesFacts}
-use Rattle.aes.proofs.Bytes.{tabulate-at, double-is}
-use Rattle.aes.proofs.Schedule.{rounds-expand}
+use Rattle.fips197.specs.Aes.{tabulate, xtime, mulBits, _•_, squares, inverse, rotateLeft, affine, sBox, sBoxTable, subBytes, shiftRows, mixColumns, addRoundKey, rounds, cipher, cipherNumber, rotWord, subWord, xpow, rcon, transform, nextWord, keyWords, extendBy, expand}
+use Rattle.fips197.specs.Facts.{AesFacts}
+use Rattle.fips197.proofs.Bytes.{tabulate-at, double-is}
+use Rattle.fips197.proofs.Schedule.{rounds-expand}
 
 -- every byte times its inverse
 inverses : tabulate 256 (λ b. b • inverse b) ≡ 0 ∷ replicate 255 1

@@ -8,8 +8,8 @@ use native.Mathlib.Omega.{arith}
 use lib.ListN.{length, getD, take, drop, set, length-append}
 use lib.Seq.{take-suc-set, take-all, take-at, getD-take}
 use Rattle.block.specs.Bytes.{fromBytes, part}
-use Rattle.aes.specs.Aes.{_⊕_, roundsOf, transform, nextWord, keyWords, extendBy, expand}
-use Rattle.aes.proofs.Bytes.{length-tabulate, tabulate-at}
+use Rattle.fips197.specs.Aes.{_⊕_, roundsOf, transform, nextWord, keyWords, extendBy, expand}
+use Rattle.fips197.proofs.Bytes.{length-tabulate, tabulate-at}
 
 -- ---- the key's own words
 

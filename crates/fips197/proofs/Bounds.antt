@@ -7,8 +7,8 @@ use lib.ListN.{length, getD}
 use Rattle.block.specs.Bytes.{Bytes, toBytes, xorBytes}
 use Rattle.block.proofs.Lists.{bytes-append, bytes-xor}
 use Rattle.block.proofs.Numbers.{block-lt, bytes-toBytes}
-use Rattle.aes.specs.Aes.{sBox, subBytes, cell, byColumn, shiftRows, addRoundKey, cipher, roundsOf, cipherNumber}
-use Rattle.aes.proofs.Bytes.{sBox-lt}
+use Rattle.fips197.specs.Aes.{sBox, subBytes, cell, byColumn, shiftRows, addRoundKey, cipher, roundsOf, cipherNumber}
+use Rattle.fips197.proofs.Bytes.{sBox-lt}
 
 getD-lt : (l : List ℕ) (i : ℕ) → Bytes l → getD l i 0 < 256
 getD-lt [] i h = lit< tt

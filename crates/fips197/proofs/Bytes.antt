@@ -7,7 +7,7 @@ use lib.Dec.{lit<}
 use lib.Bits.{bitXor, xor-lt, xor-zero-r}
 use lib.ListN.{length, getD}
 use Rattle.block.specs.Field.{times}
-use Rattle.aes.specs.Aes.{_⊕_, _•_, tabulate, xtime, mulBits, squares, inverse, rotateLeft, affine, sBox}
+use Rattle.fips197.specs.Aes.{_⊕_, _•_, tabulate, xtime, mulBits, squares, inverse, rotateLeft, affine, sBox}
 
 -- ---- a list made by a rule
 

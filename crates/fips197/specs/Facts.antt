@@ -4,7 +4,7 @@ use mathlib.Core.List.{List}
 use Prim.Native.Nat.{ℕ, _+_, _*_, _≤_, _<_}
 use lib.ListN.{getD}
 use Rattle.block.specs.Bytes.{toBytes}
-use Rattle.aes.specs.Aes.{_•_, xtime, inverse, affine, sBoxTable, expand, roundsOf, cipherNumber}
+use Rattle.fips197.specs.Aes.{_•_, xtime, inverse, affine, sBoxTable, expand, roundsOf, cipherNumber}
 
 pub record AesFacts : Type 0 where
   -- 4.2: the product by x

@@ -1,0 +1,4 @@
+pub mod Bytes
+pub mod Schedule
+pub mod Facts
+pub mod Bounds

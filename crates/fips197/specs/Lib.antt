@@ -1,0 +1,2 @@
+pub mod Aes
+pub mod Facts
