@@ -227,11 +227,11 @@ fn transform(t: &Table, nk: usize, i: usize, x: u32) -> u32
     requires { ⌜ (now t ≡ roundTable) × (0 < nk) ⌝ }
     ensures { λ r. ⌜ r ≡ FIPS.transform nk i x ⌝ }
 {
-    let m = i % nk;
-    if m == 0 {
+    let r = i % nk;
+    if r == 0 {
         return sub_word(t, rot_word(x)) ^ rcon(i / nk);
     }
-    if 6 < nk && m == 4 {
+    if 6 < nk && r == 4 {
         return sub_word(t, x);
     }
     x

@@ -1,3 +1,4 @@
 pub mod Rules
 pub mod Shapes
 pub mod Passing
+pub mod Numbers

@@ -1,32 +1,28 @@
 -- What passing the checks shows. Assumes nothing.
-use mathlib.Core.Path.{_≡_, refl, ap, _∙_}
-use mathlib.Core.Bool.{Bool, true, false, not, _||_, cond}
+use mathlib.Core.Path.{_≡_, refl, _∙_}
+use mathlib.Core.Bool.{true, false, not, _||_}
 use mathlib.Core.List.{List, [], _∷_}
-use mathlib.Core.Option.{none, some}
-use Prim.Native.Nat.{ℕ, _≤_}
+use mathlib.Core.Option.{none}
+use Prim.Native.Nat.{ℕ, _<_, _≤_}
 use lib.Dec.{eqb, ltb}
-use borrow.Author.Tests.{not-false, eqb-true, eq-eqb, ltb-false}
+use borrow.Author.Tests.{not-false, eqb-true, eq-eqb, lt-leb, ltb-false, le-ltb}
 use Rattle.mode.specs.Sealing.{Key, Triple}
 use Rattle.mode.specs.Scheme.{isKey, isSize}
 use Rattle.mode.proofs.Sizes.{size-whole, size-le}
-use Rattle.answers.specs.Rules.{Rule, firstOf, Volume, isShape, lengthRules, listRules, sidesRules, partsRules, openRules, volumeRules, surveyRules}
+use Rattle.answers.specs.Rules.{Rule, firstOf, Volume, Args, isShape, lengthRules, numberRules, listRules, sidesRules, partsRules, openRules, volumeRules, sectorRules, surveyRules}
 use Rattle.answers.specs.Passing.{Sizes}
-use Rattle.answers.proofs.Rules.{cond-none, only-rule, none-left, none-right}
+use Rattle.answers.proofs.Rules.{cond-none, only-rule, first-none, none-left, none-right}
 
 -- ---- lists of rules
 
 -- no rule holds
-abbrev pub NoneHolds : List Rule → Type 0
+abbrev NoneHolds : List Rule → Type 0
 NoneHolds [] = Unit {0}
 NoneHolds (r ∷ rs) = (r .condition ≡ false) × NoneHolds rs
 
-pub none-holds : (rs : List Rule) → firstOf rs ≡ none → NoneHolds rs
+none-holds : (rs : List Rule) → firstOf rs ≡ none → NoneHolds rs
 none-holds [] e = tt
 none-holds (r ∷ rs) e = let u = cond-none (r .condition) (r .number) (firstOf rs) e in (u .0, none-holds rs (u .1))
-
-pub holds-none : (rs : List Rule) → NoneHolds rs → firstOf rs ≡ none
-holds-none [] h = refl
-holds-none (r ∷ rs) h = ap (λ (b : Bool). cond b (some (r .number)) (firstOf rs)) (h .0) ∙ holds-none rs (h .1)
 
 -- ---- lengths
 
@@ -38,23 +34,25 @@ length-due l d e = due l d (only-rule (not (eqb l d)) 3 e)
 
 -- ---- the calls on a sector
 
+sizes : (s x y g : ℕ) → not (isSize s) ≡ false → x ≡ s → y ≡ s → g ≡ 16 → Sizes s x y g
+sizes s x y g e ex ey eg =
+    let size = not-false (isSize s) e in
+    record { blocks = size-whole s size; most = size-le s size; first = ex; second = ey; tag-size = eg }
+
 pub sides-passed : (s x y : ℕ) → firstOf (sidesRules s x y) ≡ none → Sizes s x y 16
 sides-passed s x y e =
     let (a, (b, (c, z))) = none-holds (sidesRules s x y) e in
-    let size = not-false (isSize s) a in
-    record { blocks = size-whole s size; most = size-le s size; first = due x s b; second = due y s c; tag-size = refl }
+    sizes s x y 16 a (due x s b) (due y s c) refl
 
 pub parts-passed : (k : Key) (s x y g : ℕ) → firstOf (partsRules k s x y g) ≡ none → (isKey k ≡ true) × Sizes s x y g
 parts-passed k s x y g e =
     let (a, (b, (c, (d, (t, z))))) = none-holds (partsRules k s x y g) e in
-    let size = not-false (isSize s) b in
-    (not-false (isKey k) a, record { blocks = size-whole s size; most = size-le s size; first = due x s c; second = due y s d; tag-size = due g 16 t })
+    (not-false (isKey k) a, sizes s x y g b (due x s c) (due y s d) (due g 16 t))
 
 pub open-passed : (k : Key) (s out g side : ℕ) → firstOf (openRules k s out g side) ≡ none → (isKey k ≡ true) × Sizes s out out g
 open-passed k s out g side e =
     let (a, (b, (c, (t, z)))) = none-holds (openRules k s out g side) e in
-    let size = not-false (isSize s) b in
-    (not-false (isKey k) a, record { blocks = size-whole s size; most = size-le s size; first = due out s c; second = due out s c; tag-size = due g 16 t })
+    (not-false (isKey k) a, sizes s out out g b (due out s c) (due out s c) (due g 16 t))
 
 -- and what passes them
 
@@ -81,9 +79,24 @@ common v vol e =
     let (a, (b, (c, z))) = none-holds (volumeRules vol (isShape (vol .size) (vol .count) v)) e in
     record { key = not-false (isKey (vol .key)) a; size = not-false (isSize (vol .size)) b; shape = not-false (isShape (vol .size) (vol .count) v) c }
 
+pub volume-pass : (v : Triple) (vol : Volume) → Common v vol → firstOf (volumeRules vol (isShape (vol .size) (vol .count) v)) ≡ none
+volume-pass v vol c = simp (c .key, c .size, c .shape)
+
+-- a call on one sector
+pub sector-pass : (v : Triple) (a : Args) → Common v (a .volume) → a .number < a .volume .count → firstOf (sectorRules (isShape (a .volume .size) (a .volume .count) v) a) ≡ none
+sector-pass v a c h =
+    first-none (numberRules (a .volume .count) (a .number)) (volumeRules (a .volume) (isShape (a .volume .size) (a .volume .count) v)) (volume-pass v (a .volume) c)
+    ∙ simp (lt-leb (a .volume .count) (a .number) h)
+
+-- a survey
 pub survey-passed : (v : Triple) (vol : Volume) (room : ℕ) → firstOf (surveyRules vol (isShape (vol .size) (vol .count) v) room) ≡ none
     → Common v vol × (vol .count ≤ room)
 survey-passed v vol room e =
     let every : List Rule = volumeRules vol (isShape (vol .size) (vol .count) v) in
     let eleven : List Rule = listRules (vol .count) room in
-    (common v vol (none-left eleven every e), ltb-false room (vol .count) (only-rule (ltb room (vol .count)) 11 (none-right eleven every e)))
+    (common v vol (none-left eleven every e), ltb-false room (vol .count) (none-holds eleven (none-right eleven every e) .0))
+
+pub survey-pass : (v : Triple) (vol : Volume) (room : ℕ) → Common v vol → vol .count ≤ room → firstOf (surveyRules vol (isShape (vol .size) (vol .count) v) room) ≡ none
+survey-pass v vol room c h =
+    first-none (listRules (vol .count) room) (volumeRules vol (isShape (vol .size) (vol .count) v)) (volume-pass v vol c)
+    ∙ simp (le-ltb room (vol .count) h)

@@ -117,7 +117,7 @@ fn check_key(key: &[u8]) -> Done
 }
 
 // Whether s is the size of a sector.
-pub fn is_size(s: usize) -> bool
+fn is_size(s: usize) -> bool
     ensures { λ r. ⌜ r ≡ isSize s ⌝ }
 {
     if s < 16 {

@@ -73,13 +73,13 @@ fn hash_chain(p: &[u64; 18], x: &[u8], n: u64) -> Block
     requires { ⌜ Powers (now p) × (16 ≤ length (now x)) × (length (now x) ≤ 4096) ⌝ }
     ensures { λ r. ⌜ value r ≡ iterate n (hashed (keyOf (now (p .entry))) (now (x .entry))) 0 ⌝ }
 {
-    let m = 16 * (x.len() / 16 - 1);
-    let last = block::load(x, m);
+    let at = 16 * (x.len() / 16 - 1);
+    let last = block::load(x, at);
     let mut acc = Block { hi: 0, lo: 0 };
     let mut k = n;
     while 0 < k {
         let sum = block::xor(last, acc);
-        acc = hash::brw_last(p, &x[..m], sum);
+        acc = hash::brw_last(p, &x[..at], sum);
         k = k - 1;
     }
     acc

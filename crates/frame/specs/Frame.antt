@@ -1,4 +1,4 @@
--- One line of the program `frames` (document 01, "Without the volume"): what is printed for it. Assumes nothing: these are definitions.
+-- A frame of the program `frames` (document 01, "Without the volume"): its refusals and its answer. Assumes nothing: these are definitions.
 use mathlib.Core.Bool.{Bool, not, _&&_, _||_, cond}
 use mathlib.Core.List.{List, [], _∷_, _++_}
 use mathlib.Core.Option.{Option, none, some}
@@ -6,22 +6,11 @@ use Prim.Native.Nat.{ℕ, _+_, _-_, _/_, _%_}
 use lib.Dec.{eqb, leb}
 use lib.ListN.{length, take, drop, getD, replicate}
 use Rattle.block.specs.Bytes.{fromBytes}
-use Rattle.mode.specs.Scheme.{local, tag, remote, isSize}
+use Rattle.mode.specs.Scheme.{local, tag, remote}
 use Rattle.mode.specs.Sealing.{triple, keyFrom}
 use Rattle.answers.specs.Answers.{doubtNumber}
-use Rattle.answers.specs.Rules.{Rule, rule, firstOf}
+use Rattle.answers.specs.Rules.{Rule, rule, firstOf, sizeRules}
 use Rattle.sector.specs.Calls.{judgeCall, combineCall}
-use Rattle.text.specs.Digits.{allDigits, decode}
-
--- ---- bytes in hexadecimal
-
--- the digit of a value below 16, in lower case
-unfoldable pub digit : ℕ → ℕ
-digit v = cond (leb v 9) (v + 48) (v + 87)
-
-unfoldable pub encode : List ℕ → List ℕ
-encode [] = []
-encode (b ∷ bs) = digit (b / 16) ∷ digit (b % 16) ∷ encode bs
 
 -- ---- the bytes f of a frame
 
@@ -76,36 +65,19 @@ abbrev pub unlessRefused : Option ℕ → Answer → Answer
 unlessRefused none a = a
 unlessRefused (some n) a = refused n
 
--- ---- a line
+-- ---- a frame
 
--- the refusals of a line of n bytes, of a frame's kind, and of two sectors with n bytes together
-abbrev pub lengthRules : ℕ → List Rule
-lengthRules n = rule 12 (eqb n 0) ∷ rule 12 (leb 16499 n) ∷ rule 12 (not (eqb (n % 2) 0)) ∷ []
-
+-- the refusals of a frame's kind
 abbrev pub kindRules : List ℕ → List Rule
 kindRules f =
     rule 12 (not (eqb (kind f) 1 || eqb (kind f) 2))
     ∷ rule 12 (eqb (kind f) 1 && not (leb 57 (length f)))
     ∷ []
 
-abbrev pub sectorRules : ℕ → List Rule
-sectorRules n = rule 3 (not (eqb (n % 2) 0)) ∷ rule 2 (not (isSize (n / 2))) ∷ []
+-- and of two sectors with n bytes together
+abbrev pub halvesRules : ℕ → List Rule
+halvesRules n = rule 3 (not (eqb (n % 2) 0)) ∷ sizeRules (n / 2)
 
 -- a frame's answer: the first refusal, or the call's with an output of zeros
 unfoldable pub frameAnswer : List ℕ → Answer
-frameAnswer f = unlessRefused (firstOf (kindRules f ++ sectorRules (together f))) (answered (called f (replicate (half f) 0)))
-
--- a line's: the first refusal, or its frame's
-unfoldable pub lineAnswer : List ℕ → Answer
-lineAnswer line = unlessRefused (firstOf (lengthRules (length line) ++ (rule 12 (not (allDigits line)) ∷ []))) (frameAnswer (decode line))
-
--- a number and a plaintext in digits, and a line feed
-unfoldable pub printed : ℕ → List ℕ → List ℕ
-printed n P = encode (n ∷ P) ++ (10 ∷ [])
-
-unfoldable pub shown : Answer → List ℕ
-shown (given n P) = printed n P
-shown (refused n) = printed n []
-
-unfoldable pub printLine : List ℕ → List ℕ
-printLine line = shown (lineAnswer line)
+frameAnswer f = unlessRefused (firstOf (kindRules f ++ halvesRules (together f))) (answered (called f (replicate (half f) 0)))

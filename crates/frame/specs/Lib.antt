@@ -1,4 +1,2 @@
 pub mod Frame
 pub mod Inner
-pub mod Lines
-pub mod Turn

@@ -1,6 +1,6 @@
 // Answers frames: reads standard input a buffer at a time and prints one line for each of its lines. Memory is fixed, whatever the input is.
-// What a turn prints and does next is `frame::turn`; here is only the reading and the writing.
-use frame::Next;
+// What a turn prints and does next is `input::turn`; here is only the reading and the writing.
+use input::Next;
 use libc::STDERR_FILENO;
 use libc::STDIN_FILENO;
 use libc::STDOUT_FILENO;
@@ -53,7 +53,7 @@ fn step(
     out: &mut [u8; 213107],
 ) -> State {
     let got = libc::read(STDIN_FILENO, buffer);
-    let turn = frame::turn(got, buffer, line, used, out);
+    let turn = input::turn(got, buffer, line, used, out);
     let written = print(out, turn.printed);
     let held = turn.used;
     let next = turn.next;

@@ -103,8 +103,8 @@ pub fn brw_last(p: &[u64; 18], x: &[u8], last: Block) -> Block
     let t = power.exponent;
     // The n blocks before Xt, the last of them by value.
     let n = t - 1;
-    let m = 16 * (n - 1);
-    let before = brw_last(p, &x[..m], block::load(x, m));
+    let at = 16 * (n - 1);
+    let before = brw_last(p, &x[..at], block::load(x, at));
     if t == k {
         return block::mul(before, block::xor(power.element, last));
     }

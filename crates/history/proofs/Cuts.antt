@@ -18,7 +18,7 @@ use Rattle.history.specs.Machine.{Told, toldFinished, toldCut}
 use Rattle.history.proofs.Options.{none-some}
 use Rattle.answers.specs.Rules.{Args, Volume}
 use Rattle.history.specs.Volume.{store, sectorOf, Call, writes, sector, sealing, refusal, mirror}
-use Rattle.history.specs.Power.{Cut, cut, CutOf, torn, Images, Lent, leavesCall}
+use Rattle.history.specs.Power.{Cut, cut, CutOf, torn, Images, LentBytes, leavesCall}
 use Rattle.history.specs.HistoryFrom.{AnyBytes}
 use Rattle.history.specs.Cuts.{CutLeaves, CutExact}
 use Rattle.history.proofs.Demand3.{mirror-sound}
@@ -78,7 +78,7 @@ images-same s n v w I J e =
 
 -- ---- an accepted call
 
-module _ (v : Triple) (b : AnyBytes v) (a : Args) (c : Call) (lent : Lent c) (e : refusal mirror v a c ≡ none) where
+module _ (v : Triple) (b : AnyBytes v) (a : Args) (c : Call) (lent : LentBytes c) (e : refusal mirror v a c ≡ none) where
   -- the places that it writes, what it writes there, and what it found there
   abbrev places : List Place
   places = writes (a .volume .size) (sealing mirror a) (a .number) (sector v a) c .places

@@ -11,12 +11,12 @@ use Rattle.mode.specs.Scheme.{Place, Scheme, Sound}
 use Rattle.answers.specs.Rules.{Args, Volume}
 use Rattle.history.specs.Volume.{sectorOf, write, Call, sector, sealing, refusal}
 use Rattle.history.specs.Machine.{called, Held, step, afterDamage, State, put, machine}
-use Rattle.history.specs.Power.{Fate, Event, call, damage, isRefused, told, Images, Lent, CutOf, leavesCall, leaves, seen, Allowed, AllAllowed, run, hold}
+use Rattle.history.specs.Power.{Fate, Event, call, damage, isRefused, told, Images, LentBytes, CutOf, leavesCall, leaves, seen, Allowed, AllAllowed, run, hold}
 use Rattle.history.specs.History.{at, own}
 use Rattle.history.specs.HistoryFrom.{Agree, AnyBytes, Agrees}
 use Rattle.history.proofs.Refusals.{accepted-passed}
 use Rattle.history.proofs.Sector.{keeps-hurt}
-use Rattle.history.proofs.Images.{any-bytes, images-write, sector-write, sector-other, leaves-refused, left, held-after}
+use Rattle.history.proofs.Images.{any-bytes, bytes-write, images-write, sector-write, sector-other, leaves-refused, left, held-after}
 
 -- ---- the state
 
@@ -62,7 +62,7 @@ module _ (seals : Key → Scheme) (sound : Sound seals) (vol : Volume) where
           subst (λ (y : Held). Agree (vol .size) (own seals vol) j (at vol w j) y) (sym (put-other i x h j n))
           (subst (λ (t : Triple). Agree (vol .size) (own seals vol) j t (h j)) (sym (others j n)) (g .agree j lt))
 
-  accepted-step : (v : Triple) (h : State) → Agrees seals vol v h → (i : ℕ) (c : Call) (f : Fate) → refusal seals v (argsOf vol i) c ≡ none → Lent c → CutOf (vol .size) f
+  accepted-step : (v : Triple) (h : State) → Agrees seals vol v h → (i : ℕ) (c : Call) (f : Fate) → refusal seals v (argsOf vol i) c ≡ none → LentBytes c → CutOf (vol .size) f
       → Agrees seals vol (leavesCall seals v (argsOf vol i) c f) (machine h (seen seals vol v (call (argsOf vol i) c f)))
   accepted-step v h g i c f e l k =
       let b : AnyBytes v = any-bytes (vol .size) (vol .count) v (g .images) in
@@ -109,3 +109,19 @@ module _ (seals : Key → Scheme) (sound : Sound seals) (vol : Volume) where
           subst (λ (u : Volume). sectorOf (u .size) j (leavesCall seals v a c f) ≡ sectorOf (u .size) j v) t
           (left seals sound v b a c f (m .1) (subst (λ (u : Volume). CutOf (u .size) f) (sym t) (m .2)) e .others j n)
       go (some k) e = ap (λ (u : Triple). at vol u j) (leaves-refused seals v a c f k e)
+
+  -- ---- after an event and after a list the images still hold bytes
+
+  pub leaves-bytes : (v : Triple) → AnyBytes v → (e : Event) → Allowed seals vol v e → AnyBytes (leaves seals vol v e)
+  leaves-bytes v b (call a c f) m = go (refusal seals v a c) refl
+    where
+      go : (o : Option ℕ) → refusal seals v a c ≡ o → AnyBytes (leaves seals vol v (call a c f))
+      go none e =
+          let cuts = subst (λ (u : Volume). CutOf (u .size) f) (sym (m .0 e)) (m .2) in
+          any-bytes (a .volume .size) (a .volume .count) _ (left seals sound v b a c f (m .1) cuts e .images)
+      go (some k) e = subst AnyBytes (sym (leaves-refused seals v a c f k e)) b
+  leaves-bytes v b (damage p i x) m = bytes-write (vol .size) i p x v b (m .1 .bytes)
+
+  pub run-bytes : (es : List Event) (v : Triple) → AnyBytes v → AllAllowed seals vol v es → AnyBytes (run seals vol v es)
+  run-bytes [] v b m = b
+  run-bytes (e ∷ es) v b m = run-bytes es (leaves seals vol v e) (leaves-bytes v b e (m .0)) (m .1)

@@ -12,7 +12,7 @@ use Rattle.verdict.specs.Verdict.{Fits}
 use Rattle.answers.specs.Rules.{Args}
 use Rattle.history.specs.Volume.{sectorOf, store, write, writeAll, Call, first, writes, unless, sector, sealing, refusal, landed, after}
 use Rattle.history.specs.Machine.{Held, step}
-use Rattle.history.specs.Power.{Fate, finished, cut, told, Images, Lent, CutOf, leavesCall}
+use Rattle.history.specs.Power.{Fate, finished, cut, told, Images, LentBytes, CutOf, leavesCall}
 use Rattle.history.specs.HistoryFrom.{Agree, AnyBytes}
 use Rattle.block.proofs.Parts.{bytes-part, bytes-patch, length-part, length-patch, part-patch, part-other}
 use Rattle.verdict.proofs.JudgeExact.{same-place}
@@ -116,7 +116,7 @@ module _ (seals : Key → Scheme) (sound : Sound seals) where
   pub passed-lawful : (v : Triple) (a : Args) → Common v (a .volume) → Lawful (a .volume .size) (sealing seals a)
   passed-lawful v a p = sound .lawful (a .volume .key) (a .volume .size) (p .key) (p .size)
 
-  module _ (v : Triple) (b : AnyBytes v) (a : Args) (c : Call) (f : Fate) (lent : Lent c) (cuts : CutOf (a .volume .size) f) (e : refusal seals v a c ≡ none) where
+  module _ (v : Triple) (b : AnyBytes v) (a : Args) (c : Call) (f : Fate) (lent : LentBytes c) (cuts : CutOf (a .volume .size) f) (e : refusal seals v a c ≡ none) where
     passed : Passed v a c
     passed = accepted-passed seals v a c e
 

@@ -1,6 +1,6 @@
 -- What a call refuses and answers. Assumes nothing.
 use mathlib.Core.Path.{_≡_, sym, _∙_, ap}
-use mathlib.Core.Bool.{true, not}
+use mathlib.Core.Bool.{true}
 use mathlib.Core.List.{List, _++_}
 use mathlib.Core.Option.{Option, none, some}
 use Prim.Native.Nat.{ℕ, _<_, _*_}
@@ -8,22 +8,22 @@ use native.Mathlib.Nat.{eq-of-mul-eq-mul-left}
 use native.Mathlib.Omega.{arith}
 use lib.Dec.{leb}
 use lib.ListN.{length}
-use borrow.Author.Tests.{leb-false, lt-leb}
+use borrow.Author.Tests.{leb-false}
 use Rattle.block.specs.Bytes.{Plain}
 use Rattle.mode.specs.Sealing.{Triple, Key}
 use Rattle.mode.specs.Scheme.{local, tag, Scheme}
 use Rattle.answers.specs.Rules.{numberRules, Rule, firstOf, Args, isShape, volumeRules, sectorRules}
 use Rattle.history.specs.Answers.{refused, reply}
 use Rattle.history.specs.Volume.{Call, blank, first, second, third, mend, read, lengths, early, late, result, sector, sealing, refusal, answer}
-use Rattle.history.specs.Power.{Images, Lent}
+use Rattle.history.specs.Power.{Images, LentBytes}
 use Rattle.history.specs.HistoryFrom.{AnyBytes}
 use Rattle.answers.proofs.Rules.{only-rule, first-none, first-some, none-left, none-right}
 use Rattle.answers.proofs.Shapes.{shape-facts}
-use Rattle.answers.proofs.Passing.{Common, common, holds-none, length-due}
+use Rattle.answers.proofs.Passing.{Common, common, sector-pass, length-due}
 
 -- ---- early refusals
 
--- What passing them shows. Other proofs go by these facts: here only `passed` and `passes-early` read the lists of rules.
+-- What passing them shows. Other proofs go by these facts: here only `passed` reads the lists of rules.
 pub record Passed (v : Triple) (a : Args) (c : Call) : Type 0 where
   pub common : Common v (a .volume)
   pub number : a .number < a .volume .count
@@ -44,10 +44,7 @@ passed v a c e =
 pub passes-early : (v : Triple) (a : Args) (c : Call) → Passed v a c → firstOf (early v a c) ≡ none
 unfolding early
 passes-early v a c p =
-    let o = p .common in
-    first-none (lengths a c) (sectorRules (isShape (a .volume .size) (a .volume .count) v) a)
-    (holds-none (sectorRules (isShape (a .volume .size) (a .volume .count) v) a) (ap not (o .key), (ap not (o .size), (ap not (o .shape), (lt-leb (a .volume .count) (a .number) (p .number), tt)))))
-    ∙ p .lengths
+    first-none (lengths a c) (sectorRules (isShape (a .volume .size) (a .volume .count) v) a) (sector-pass v a (p .common) (p .number)) ∙ p .lengths
 
 -- a stage's plaintext is s bytes
 abbrev pub Sized : ℕ → Call → Type 0
@@ -58,7 +55,7 @@ Sized s (third P) = Plain s P
 Sized s mend = Unit {0}
 Sized s (read o) = Unit {0}
 
-pub sized : (a : Args) (c : Call) → firstOf (lengths a c) ≡ none → Lent c → Sized (a .volume .size) c
+pub sized : (a : Args) (c : Call) → firstOf (lengths a c) ≡ none → LentBytes c → Sized (a .volume .size) c
 sized a blank e l = tt
 sized a (first P) e l = record { long = length-due (length P) (a .volume .size) e; bytes = l }
 sized a (second P) e l = record { long = length-due (length P) (a .volume .size) e; bytes = l }

@@ -16,10 +16,10 @@ use Rattle.answers.specs.Rules.{firstOf, Args, isShape, shape, Volume}
 use Rattle.verdict.proofs.JudgeExact.{local-remote, tag-remote}
 use Rattle.history.specs.Volume.{write, Call, blank, first, second, third, mend, read, lengths, early, refusal, mirror}
 use Rattle.history.specs.Machine.{toldFinished, Held, kept, afterDamage, State, start, step, machine}
-use Rattle.history.specs.Power.{finished, Event, call, damage, Images, Lent, leavesCall, seen, Allowed, AllAllowed}
+use Rattle.history.specs.Power.{finished, Event, call, damage, Images, LentBytes, leavesCall, seen, Allowed, AllAllowed}
 use Rattle.history.specs.History.{at, own, Proper, ProperRead}
 use Rattle.history.specs.HistoryFrom.{Agree, Agrees}
-use Rattle.history.specs.Witness.{Accepted, Reaches, Reached}
+use Rattle.history.specs.Witness.{AcceptedVolume, Reaches, Reached}
 use Rattle.history.proofs.Demand3.{mirror-sound}
 use Rattle.history.proofs.Events.{argsOf, put-same, machine-accepted, event-step}
 use Rattle.history.proofs.History.{start-agrees}
@@ -37,7 +37,7 @@ images-shape s n v least most I =
     (and-both (eqb (length (v .remote)) (n * s)) _ (eq-eqb (length (v .remote)) (n * s) (I .images remote .long))
     (eq-eqb (length (v .tag)) (n * 16) (I .images tag .long)))))
 
-module _ (vol : Volume) (accepted : Accepted vol) (i : ℕ) (lt : i < vol .count) where
+module _ (vol : Volume) (accepted : AcceptedVolume vol) (i : ℕ) (lt : i < vol .count) where
   abbrev a : Args
   a = argsOf vol i
 
@@ -54,11 +54,11 @@ module _ (vol : Volume) (accepted : Accepted vol) (i : ℕ) (lt : i < vol .count
   same-length : (m : ℕ) → m ≡ vol .size → firstOf (lengths a (read m)) ≡ none
   same-length m e = simp (eq-eqb m (vol .size) e)
 
-  allowed : (v : Triple) (c : Call) → Lent c → Allowed mirror vol v (call a c finished)
+  allowed : (v : Triple) (c : Call) → LentBytes c → Allowed mirror vol v (call a c finished)
   allowed v c l = (λ e. refl, l, tt)
 
   -- a finished call that is not refused: what is held agrees afterwards, and is the machine's step
-  module _ (v : Triple) (h : State) (g : Agrees mirror vol v h) (c : Call) (l : Lent c) where
+  module _ (v : Triple) (h : State) (g : Agrees mirror vol v h) (c : Call) (l : LentBytes c) where
     abbrev images-after : Triple
     images-after = leavesCall mirror v a c finished
 
@@ -173,7 +173,7 @@ module _ (vol : Volume) (accepted : Accepted vol) (i : ℕ) (lt : i < vol .count
     written-allowed es m =
         (allowed v blank tt, (allowed v₁ (first P) (plain .bytes), (allowed v₂ (second P) (plain .bytes), (allowed v₃ (third P) (plain .bytes), m))))
 
-    proper : (w : Triple) → Images (vol .size) (vol .count) w → (c : Call) → Lent c → firstOf (lengths a c) ≡ none → Proper vol w i a c
+    proper : (w : Triple) → Images (vol .size) (vol .count) w → (c : Call) → LentBytes c → firstOf (lengths a c) ≡ none → Proper vol w i a c
     proper w J c l e = record { takes = refl; names = refl; lent = l; passes = passes w J c e }
 
     reads : (w : Triple) → Images (vol .size) (vol .count) w → ProperRead vol w i a (replicate (vol .size) 0)

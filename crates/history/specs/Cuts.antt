@@ -12,7 +12,7 @@ use Rattle.mode.specs.Scheme.{Place, local, tag, remote, on, wide, Scheme}
 use Rattle.verdict.specs.Verdict.{Fits}
 use Rattle.answers.specs.Rules.{Args, Volume}
 use Rattle.history.specs.Volume.{Call, second, sectorOf, writes, sector, sealing, refusal, mirror}
-use Rattle.history.specs.Power.{Cut, Fate, finished, cut, call, damage, Lent, told, leavesCall, leaves, Allowed}
+use Rattle.history.specs.Power.{Cut, Fate, finished, cut, call, damage, LentBytes, told, leavesCall, leaves, Allowed}
 use Rattle.history.specs.Machine.{toldCut}
 use Rattle.history.specs.HistoryFrom.{AnyBytes}
 
@@ -38,12 +38,12 @@ pub record CutExact : Type 0 where
   -- a call that is or would be refused writes nothing
   pub refused : (v : Triple) (a : Args) (c : Call) (f : Fate) (k : ℕ) → refusal mirror v a c ≡ some k → leavesCall mirror v a c f ≡ v
   -- the outcomes of a cut that is allowed in a list are those of the rule, all of them and no others
-  pub accepted : (vol : Volume) (v : Triple) → AnyBytes v → (a : Args) → a .volume ≡ vol → (c : Call) → Lent c → refusal mirror v a c ≡ none → (w : Triple)
+  pub accepted : (vol : Volume) (v : Triple) → AnyBytes v → (a : Args) → a .volume ≡ vol → (c : Call) → LentBytes c → refusal mirror v a c ≡ none → (w : Triple)
       → ((k : Cut) × Allowed mirror vol v (call a c (cut k)) × (leaves mirror vol v (call a c (cut k)) ≡ w)) ↔ CutLeaves v a c w
   -- of a cut second stage the machine is told that the tag is new exactly if the tag that is left is P's
   pub tag-told : (S : Scheme) (i : ℕ) (t : Triple) (P : List ℕ) (k : Cut) → (told S i t (second P) (cut k) ≡ toldCut true) ↔ Fits S i t tag P
   -- what else is allowed: every finished call with the volume's key, s and n, every call that is or would be refused, with any arguments, and
   -- damage of any bytes to any place of any sector
-  pub finished-allowed : (vol : Volume) (v : Triple) (a : Args) (c : Call) → a .volume ≡ vol → Lent c → Allowed mirror vol v (call a c finished)
-  pub refused-allowed : (vol : Volume) (v : Triple) (a : Args) (c : Call) (k : ℕ) → Lent c → refusal mirror v a c ≡ some k → Allowed mirror vol v (call a c finished)
+  pub finished-allowed : (vol : Volume) (v : Triple) (a : Args) (c : Call) → a .volume ≡ vol → LentBytes c → Allowed mirror vol v (call a c finished)
+  pub refused-allowed : (vol : Volume) (v : Triple) (a : Args) (c : Call) (k : ℕ) → LentBytes c → refusal mirror v a c ≡ some k → Allowed mirror vol v (call a c finished)
   pub damage-allowed : (vol : Volume) (v : Triple) (p : Place) (i : ℕ) (b : List ℕ) → i < vol .count → Plain (wide (vol .size) p) b → Allowed mirror vol v (damage p i b)

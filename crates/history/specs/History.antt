@@ -14,13 +14,13 @@ use Rattle.answers.specs.Answers.{doubtNumber}
 use Rattle.answers.specs.Rules.{firstOf, Args, Volume}
 use Rattle.history.specs.Volume.{Call, first, mend, read, sectorOf, early, outcome, readOutcome, mirror}
 use Rattle.history.specs.Machine.{Held, gone, kept, State, start}
-use Rattle.history.specs.Power.{Fate, Event, call, Images, Lent, leavesCall, Allowed, AllAllowed, run, hold}
+use Rattle.history.specs.Power.{Fate, Event, call, Images, LentBytes, leavesCall, Allowed, AllAllowed, run, hold}
 
 -- document 01's "proper" call, on sector i: it takes the volume's key, s and n, and none of the early refusals turns it away
 pub record Proper (vol : Volume) (v : Triple) (i : ℕ) (a : Args) (c : Call) : Type 0 where
   pub takes : a .volume ≡ vol
   pub names : a .number ≡ i
-  pub lent : Lent c
+  pub lent : LentBytes c
   pub passes : firstOf (early v a c) ≡ none
 
 -- a proper read into the output `out`

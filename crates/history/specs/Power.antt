@@ -18,13 +18,13 @@ pub record Images (s n : ℕ) (v : Triple) : Type 0 where
   pub images : (p : Place) → Plain (n * wide s p) (on v p)
 
 -- a lent plaintext is a list of bytes, of any length
-abbrev pub Lent : Call → Type 0
-Lent blank = Unit {0}
-Lent (first P) = Bytes P
-Lent (second P) = Bytes P
-Lent (third P) = Bytes P
-Lent mend = Unit {0}
-Lent (read o) = Unit {0}
+abbrev pub LentBytes : Call → Type 0
+LentBytes blank = Unit {0}
+LentBytes (first P) = Bytes P
+LentBytes (second P) = Bytes P
+LentBytes (third P) = Bytes P
+LentBytes mend = Unit {0}
+LentBytes (read o) = Unit {0}
 
 -- ---- events
 
@@ -96,7 +96,7 @@ module _ (seals : Key → Scheme) where
 
     -- every call takes the volume's key, s and n but one that is or would be refused
     abbrev pub Allowed : Triple → Event → Type 0
-    Allowed v (call a c f) = (refusal seals v a c ≡ none → a .volume ≡ vol) × Lent c × CutOf (vol .size) f
+    Allowed v (call a c f) = (refusal seals v a c ≡ none → a .volume ≡ vol) × LentBytes c × CutOf (vol .size) f
     Allowed v (damage p i b) = (i < vol .count) × Plain (wide (vol .size) p) b
 
     -- each event gets the images as the one before left them

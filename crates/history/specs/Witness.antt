@@ -15,7 +15,7 @@ use Rattle.history.specs.Power.{Event, Images, AllAllowed, run, hold}
 use Rattle.history.specs.History.{Proper, ProperRead}
 
 -- a key, a size and a count that the calls accept
-pub record Accepted (vol : Volume) : Type 0 where
+pub record AcceptedVolume (vol : Volume) : Type 0 where
   pub key : isKey (vol .key) ≡ true
   pub size : isSize (vol .size) ≡ true
   pub least : 1 ≤ vol .count
@@ -35,5 +35,5 @@ pub record Reaches (vol : Volume) (v : Triple) (i : ℕ) (x : Held) : Type 0 whe
 
 -- every plaintext of s bytes, without doubt and with each place in doubt
 abbrev pub Reached : Type 0
-Reached = (vol : Volume) → Accepted vol → (v : Triple) → Images (vol .size) (vol .count) v
+Reached = (vol : Volume) → AcceptedVolume vol → (v : Triple) → Images (vol .size) (vol .count) v
     → (i : ℕ) → i < vol .count → (P : List ℕ) → Plain (vol .size) P → (d : Option Place) → Reaches vol v i (kept P d)

@@ -9,7 +9,7 @@ use borrow.Rule.Slice.PartMut.{midOf, putMid, post-is}
 use Rattle.block.specs.Bytes.{toBytes, part, patch, same}
 use Rattle.mode.specs.declared.Context.{Context}
 use Rattle.mode.specs.Prepared.{Ready}
-use Rattle.verdict.specs.Judging.{Lent, judgedBy}
+use Rattle.verdict.specs.Judging.{JudgeReady, judgedBy}
 use Rattle.images.specs.Lent.{Within}
 
 lent-part : (w i : ℕ) (image : List ℕ) → midOf (i * w) (i * w + w - i * w) image ≡ part w i image
@@ -29,7 +29,7 @@ part-size w i image h = simp (length-take, length-drop) (omega arith)
 pub lent-parts : (s i : ℕ) (l r : List ℕ) {t w p b out : List ℕ} {m : Context} {g x y : ℕ}
     → Ready t w p m → Within s i (length l) g (length r) → length b ≡ 16 → length out ≡ s → x ≡ s → y ≡ s
     → let lent = midOf (i * s) (i * s + s - i * s) l in
-    Lent t w p m lent b (midOf (i * s) (i * s + s - i * s) r) out × (x ≡ length lent) × (y ≡ length lent)
+    JudgeReady t w p m lent b (midOf (i * s) (i * s + s - i * s) r) out × (x ≡ length lent) × (y ≡ length lent)
 lent-parts s i l r ready z eb eo ex ey =
     let el = part-size s i l (z .local-end) in
     let er = part-size s i r (z .remote-end) in

@@ -10,7 +10,7 @@ use Rattle.mode.specs.declared.Direction.the-variants.{SealLocal, SealRemote}
 use Rattle.mode.specs.Scheme.{Place, local, tag, remote, on, dcm}
 use Rattle.mode.specs.Sealing.{Triple, blockwise, tagBlock, pad, localBlock, remoteBlock, sides, sealedBy}
 use Rattle.mode.specs.Transforms.{transformed}
-use Rattle.verdict.specs.Judging.{schemeOf}
+use Rattle.mode.specs.Prepared.{schemeOf}
 use Rattle.verdict.specs.Verdict.{fits}
 
 -- what the code works out for a place, where k is the tag of P

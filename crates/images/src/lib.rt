@@ -7,14 +7,11 @@ use mode::Direction;
 ghost use mathlib.Core.Path.{_≡_};
 ghost use Prim.Native.Nat.{_+_, _*_, _<_, _≤_, _%_};
 ghost use lib.ListN.{length};
-ghost use Rattle.block.specs.Bytes.{toBytes, blocksOf, part, patch, same};
+ghost use Rattle.block.specs.Bytes.{toBytes, part, patch, same};
 ghost use Rattle.block.specs.Value.{value};
-ghost use Rattle.fips197.specs.Aes.{cipherNumber};
-ghost use Rattle.aes.specs.Columns.{roundTable};
-ghost use Rattle.mode.specs.Prepared.{Ready};
+ghost use Rattle.mode.specs.Prepared.{PadsReady, Ready};
 ghost use Rattle.mode.specs.declared.Direction.the-variants.{SealLocal};
-ghost use Rattle.mode.specs.Sealing.{pad, blockwise};
-ghost use Rattle.mode.specs.Transforms.{transformed};
+ghost use Rattle.mode.specs.Transforms.{transformedBy};
 ghost use Rattle.answers.specs.Answers.{judgedNumber};
 ghost use Rattle.verdict.specs.Judging.{judgedBy};
 ghost use Rattle.images.specs.Lent.{Within};
@@ -24,7 +21,7 @@ pub fn judge_part(
     t: &Table,
     w: &[u32],
     powers: &[u64; 18],
-    m: Context,
+    ctx: Context,
     s: usize,
     i: usize,
     local: &[u8],
@@ -34,8 +31,8 @@ pub fn judge_part(
     sum: &mut [u8],
     scratch: &mut [u8],
 ) -> Judged
-    requires { ⌜ Ready (now t) (now w) (now powers) m × Within s i (length (now local)) (length (now tags)) (length (now remote)) × (length (now out) ≡ s) × (length (now sum) ≡ s) × (length (now scratch) ≡ s) ⌝ }
-    ensures { λ r. ⌜ judgedBy (now (w .entry)) (now (powers .entry)) m (part s i (now (local .entry))) (part 16 i (now (tags .entry))) (part s i (now (remote .entry))) (now (out .entry)) ≡ (judgedNumber r, now (out .exit)) ⌝ }
+    requires { ⌜ Ready (now t) (now w) (now powers) ctx × Within s i (length (now local)) (length (now tags)) (length (now remote)) × (length (now out) ≡ s) × (length (now sum) ≡ s) × (length (now scratch) ≡ s) ⌝ }
+    ensures { λ r. ⌜ judgedBy (now (w .entry)) (now (powers .entry)) ctx (part s i (now (local .entry))) (part 16 i (now (tags .entry))) (part s i (now (remote .entry))) (now (out .entry)) ≡ (judgedNumber r, now (out .exit)) ⌝ }
 {
     let a = i * s;
     let e = a + s;
@@ -45,7 +42,7 @@ pub fn judge_part(
         t,
         w,
         powers,
-        m,
+        ctx,
         &local[a..e],
         &tags[b..f],
         &remote[a..e],
@@ -66,8 +63,8 @@ pub fn write_side(
     i: usize,
     image: &mut [u8],
 )
-    requires { ⌜ (now t ≡ roundTable) × (8 ≤ length (now w)) × (value beta ≡ cipherNumber (now w) 1) × (length (now p) % 16 ≡ 0) × (length (now p) ≤ 4096) × (i < 65536) × (i * length (now p) + length (now p) ≤ length (now image)) ⌝ }
-    ensures { λ _. ⌜ now (image .exit) ≡ patch (length (now (p .entry))) i (blockwise (λ j v. transformed how (pad (cipherNumber (now (w .entry))) (value g) j) v) 1 (blocksOf (now (p .entry)))) (now (image .entry)) ⌝ }
+    requires { ⌜ PadsReady (now t) (now w) beta × (length (now p) % 16 ≡ 0) × (length (now p) ≤ 4096) × (i < 65536) × (i * length (now p) + length (now p) ≤ length (now image)) ⌝ }
+    ensures { λ _. ⌜ now (image .exit) ≡ patch (length (now (p .entry))) i (transformedBy how (now (w .entry)) (value g) (now (p .entry))) (now (image .entry)) ⌝ }
 {
     let s = p.len();
     let a = i * s;
@@ -94,8 +91,8 @@ pub fn fits_local(
     local: &[u8],
     scratch: &mut [u8],
 ) -> bool
-    requires { ⌜ (now t ≡ roundTable) × (8 ≤ length (now w)) × (value beta ≡ cipherNumber (now w) 1) × (length (now p) % 16 ≡ 0) × (length (now p) ≤ 4096) × (i < 65536) × (i * length (now p) + length (now p) ≤ length (now local)) × (length (now scratch) ≡ length (now p)) ⌝ }
-    ensures { λ r. ⌜ r ≡ same (part (length (now (p .entry))) i (now (local .entry))) (blockwise (λ j v. transformed SealLocal (pad (cipherNumber (now (w .entry))) (value g) j) v) 1 (blocksOf (now (p .entry)))) ⌝ }
+    requires { ⌜ PadsReady (now t) (now w) beta × (length (now p) % 16 ≡ 0) × (length (now p) ≤ 4096) × (i < 65536) × (i * length (now p) + length (now p) ≤ length (now local)) × (length (now scratch) ≡ length (now p)) ⌝ }
+    ensures { λ r. ⌜ r ≡ same (part (length (now (p .entry))) i (now (local .entry))) (transformedBy SealLocal (now (w .entry)) (value g) (now (p .entry))) ⌝ }
 {
     let s = p.len();
     let a = i * s;

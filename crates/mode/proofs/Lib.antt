@@ -2,3 +2,4 @@ pub mod Sizes
 pub mod Blockwise
 pub mod Laws
 pub mod KeyFacts
+pub mod Preparing

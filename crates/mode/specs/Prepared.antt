@@ -3,27 +3,41 @@ use mathlib.Core.Path.{_≡_}
 use mathlib.Core.List.{List}
 use Prim.Native.Nat.{ℕ, _≤_}
 use lib.ListN.{length}
+use Rattle.block.specs.declared.Block.{Block}
 use Rattle.block.specs.Value.{value}
 use Rattle.fips197.specs.Aes.{cipherNumber}
 use Rattle.aes.specs.Columns.{roundTable}
 use Rattle.hash.specs.Powers.{keyOf, Powers}
 use Rattle.mode.specs.declared.Context.{Context}
-use Rattle.mode.specs.declared.Prepared.{Prepared}
-use Rattle.mode.specs.Sealing.{hashKey, roundKeys}
+use Rattle.mode.specs.Scheme.{Scheme, dcm}
+use Rattle.mode.specs.Sealing.{Key, hashKey, roundKeys}
 
--- the table t, the round keys w, the powers p of the hash key, and the blocks m belong together
-pub record Ready (t w p : List ℕ) (m : Context) : Type 0 where
+-- ---- what the inner functions need: values that belong together
+
+-- for the pads of a side: the table t, the round keys w, and the block b, which is E(1)
+pub record PadsReady (t w : List ℕ) (b : Block) : Type 0 where
   pub table : t ≡ roundTable
   pub rounds : 8 ≤ length w
-  pub powers : Powers p
-  pub alpha : value (m .alpha) ≡ cipherNumber w 0
-  pub beta : value (m .beta) ≡ cipherNumber w 1
+  pub beta : value b ≡ cipherNumber w 1
 
--- r belongs to the key with these bytes
-pub record PreparedFor (bytes : List ℕ) (r : Prepared) : Type 0 where
-  pub round-keys : r .words ≡ roundKeys (record { bytes = bytes })
-  pub rounds : 8 ≤ length (r .words)
-  pub hash-key : keyOf (r .powers) ≡ hashKey (record { bytes = bytes })
-  pub powers : Powers (r .powers)
-  pub alpha : value (r .alpha) ≡ cipherNumber (r .words) 0
-  pub beta : value (r .beta) ≡ cipherNumber (r .words) 1
+-- for a tag besides: the powers p of the hash key, and the block a, which is E(0)
+pub record KeyReady (t w p : List ℕ) (a b : Block) : Type 0 where
+  pub pads : PadsReady t w b
+  pub powers : Powers p
+  pub alpha : value a ≡ cipherNumber w 0
+
+-- E(0) and E(1) as the context of an address has them
+abbrev pub Ready : List ℕ → List ℕ → List ℕ → Context → Type 0
+Ready t w p ctx = KeyReady t w p (ctx .alpha) (ctx .beta)
+
+-- ---- whose they are
+
+-- of the key k
+pub record PreparedFor (k : Key) (t w p : List ℕ) (a b : Block) : Type 0 where
+  pub round-keys : w ≡ roundKeys k
+  pub hash-key : keyOf p ≡ hashKey k
+  pub ready : KeyReady t w p a b
+
+-- the mode under the round keys w and the powers p of the hash key
+abbrev pub schemeOf : List ℕ → List ℕ → Scheme
+schemeOf w p = dcm (cipherNumber w) (keyOf p)

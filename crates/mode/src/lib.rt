@@ -5,15 +5,14 @@ ghost use mathlib.Core.Path.{_≡_};
 ghost use mathlib.Core.Bool.{true};
 ghost use Prim.Native.Nat.{_≤_, _%_};
 ghost use lib.ListN.{length};
-ghost use Rattle.block.specs.Bytes.{blocksOf};
 ghost use Rattle.block.specs.Value.{value};
 ghost use Rattle.fips197.specs.Aes.{cipherNumber};
 ghost use Rattle.aes.specs.Columns.{roundTable};
 ghost use Rattle.hash.specs.Powers.{keyOf};
 ghost use Rattle.mode.specs.Scheme.{isKey};
-ghost use Rattle.mode.specs.Sealing.{keyFrom, pad, blockwise, tagBlock, sides};
-ghost use Rattle.mode.specs.Prepared.{PreparedFor, Ready};
-ghost use Rattle.mode.specs.Transforms.{transformed};
+ghost use Rattle.mode.specs.Sealing.{keyFrom, tweak, tagBlock, sides};
+ghost use Rattle.mode.specs.Prepared.{PadsReady, Ready, PreparedFor};
+ghost use Rattle.mode.specs.Transforms.{transformed, transformedBy};
 
 // What is done to each block of a sector.
 pub enum Direction {
@@ -30,7 +29,7 @@ pub struct Context {
     pub tweak: Block,
 }
 
-// What a call works out once of its key: the round keys, the powers of the hash key, E(0) and E(1).
+// What is worked out once of a key: the round keys, the powers of the hash key, E(0) and E(1).
 pub struct Prepared {
     pub words: [u32; 44],
     pub powers: [u64; 18],
@@ -40,7 +39,7 @@ pub struct Prepared {
 
 pub fn prepare(t: &Table, key: &[u8]) -> Prepared
     requires { ⌜ (now t ≡ roundTable) × (isKey (keyFrom (now key)) ≡ true) ⌝ }
-    ensures { λ r. ⌜ PreparedFor (now (key .entry)) r ⌝ }
+    ensures { λ r. ⌜ PreparedFor (keyFrom (now (key .entry))) (now (t .entry)) (r .words) (r .powers) (r .alpha) (r .beta) ⌝ }
 {
     let mut w = [0u32; 44];
     aes::expand(t, &key[16..], &mut w);
@@ -55,15 +54,47 @@ pub fn prepare(t: &Table, key: &[u8]) -> Prepared
     }
 }
 
+// A key's blocks with the tweak of an address: the one place where an address becomes a block.
+pub fn context_at(alpha: Block, beta: Block, address: u64) -> Context
+    ensures { λ r. ⌜ (r .alpha ≡ alpha) × (r .beta ≡ beta) × (value (r .tweak) ≡ tweak address) ⌝ }
+{
+    Context {
+        alpha,
+        beta,
+        tweak: Block { hi: 0, lo: address },
+    }
+}
+
+// The same for a call on one sector, with the context of its address.
+pub struct PreparedAt {
+    pub words: [u32; 44],
+    pub powers: [u64; 18],
+    pub context: Context,
+}
+
+pub fn prepare_at(t: &Table, key: &[u8], address: u64) -> PreparedAt
+    requires { ⌜ (now t ≡ roundTable) × (isKey (keyFrom (now key)) ≡ true) ⌝ }
+    ensures { λ r. ⌜ PreparedFor (keyFrom (now (key .entry))) (now (t .entry)) (r .words) (r .powers) (r .context .alpha) (r .context .beta) × (value (r .context .tweak) ≡ tweak address) ⌝ }
+{
+    let k = prepare(t, key);
+    let words = k.words;
+    let powers = k.powers;
+    PreparedAt {
+        words,
+        powers,
+        context: context_at(k.alpha, k.beta, address),
+    }
+}
+
 // The tag of the plaintext p as a block.
-pub fn tag_block(t: &Table, w: &[u32], powers: &[u64; 18], m: Context, p: &[u8]) -> Block
-    requires { ⌜ Ready (now t) (now w) (now powers) m × (length (now p) ≤ 4096) ⌝ }
-    ensures { λ r. ⌜ value r ≡ tagBlock (cipherNumber (now (w .entry))) (keyOf (now (powers .entry))) (value (m .tweak)) (now (p .entry)) ⌝ }
+pub fn tag_block(t: &Table, w: &[u32], powers: &[u64; 18], ctx: Context, p: &[u8]) -> Block
+    requires { ⌜ Ready (now t) (now w) (now powers) ctx × (length (now p) ≤ 4096) ⌝ }
+    ensures { λ r. ⌜ value r ≡ tagBlock (cipherNumber (now (w .entry))) (keyOf (now (powers .entry))) (value (ctx .tweak)) (now (p .entry)) ⌝ }
 {
     let hi = powers[0];
     let lo = powers[1];
-    let product = block::mul(Block { hi, lo }, hash::brw_last(powers, p, m.tweak));
-    aes::encrypt(t, w, block::xor(product, m.alpha))
+    let product = block::mul(Block { hi, lo }, hash::brw_last(powers, p, ctx.tweak));
+    aes::encrypt(t, w, block::xor(product, ctx.alpha))
 }
 
 // A block of the result, from its pad.
@@ -88,8 +119,8 @@ pub fn transform(
     x: &[u8],
     out: &mut [u8],
 )
-    requires { ⌜ (now t ≡ roundTable) × (8 ≤ length (now w)) × (value beta ≡ cipherNumber (now w) 1) × (length (now x) % 16 ≡ 0) × (length (now out) ≡ length (now x)) ⌝ }
-    ensures { λ _. ⌜ now (out .exit) ≡ blockwise (λ j v. transformed how (pad (cipherNumber (now (w .entry))) (value tag) j) v) 1 (blocksOf (now (x .entry))) ⌝ }
+    requires { ⌜ PadsReady (now t) (now w) beta × (length (now x) % 16 ≡ 0) × (length (now out) ≡ length (now x)) ⌝ }
+    ensures { λ _. ⌜ now (out .exit) ≡ transformedBy how (now (w .entry)) (value tag) (now (x .entry)) ⌝ }
 {
     let m = x.len() / 16;
     let mut mask = beta;
@@ -115,7 +146,7 @@ pub fn seal_sides(
     local: &mut [u8],
     remote: &mut [u8],
 )
-    requires { ⌜ (now t ≡ roundTable) × (8 ≤ length (now w)) × (value beta ≡ cipherNumber (now w) 1) × (length (now p) % 16 ≡ 0) × (length (now local) ≡ length (now p)) × (length (now remote) ≡ length (now p)) ⌝ }
+    requires { ⌜ PadsReady (now t) (now w) beta × (length (now p) % 16 ≡ 0) × (length (now local) ≡ length (now p)) × (length (now remote) ≡ length (now p)) ⌝ }
     ensures { λ _. ⌜ (now (local .exit) ≡ sides (cipherNumber (now (w .entry))) (value tag) (now (p .entry)) .local) × (now (remote .exit) ≡ sides (cipherNumber (now (w .entry))) (value tag) (now (p .entry)) .remote) ⌝ }
 {
     transform(t, w, beta, Direction::SealRemote, tag, p, remote);

@@ -7,29 +7,32 @@ use lib.ListN.{length, take, drop, drop-of-length-le}
 use Rattle.block.specs.Bytes.{toBytes}
 use Rattle.block.specs.Value.{value}
 use Rattle.fips197.specs.Aes.{cipherNumber}
-use Rattle.aes.specs.Columns.{roundTable}
 use Rattle.hash.specs.Powers.{keyOf}
 use Rattle.mode.specs.declared.Context.{Context}
-use Rattle.mode.specs.declared.Prepared.{Prepared}
-use Rattle.mode.specs.Prepared.{PreparedFor}
+use Rattle.mode.specs.Prepared.{PreparedFor, schemeOf}
 use Rattle.mode.specs.Scheme.{Scheme, dcm, scheme}
-use Rattle.mode.specs.Sealing.{tweak, tagBlock, sides, sealedBy, sealed, keyFrom, triple}
+use Rattle.mode.specs.Sealing.{Key, tweak, tagBlock, sides, sealedBy, sealed, triple}
 use Rattle.answers.specs.Passing.{Sizes}
-use Rattle.verdict.specs.Judging.{schemeOf, verdictOutcome, Lent, judgedBy}
+use Rattle.verdict.specs.Judging.{verdictOutcome, JudgeReady, judgedBy}
 use Rattle.verdict.specs.Verdict.{judge}
-use Rattle.verdict.proofs.Prepared.{ContextOf, scheme-is, ready-of}
+use Rattle.mode.proofs.Preparing.{scheme-is}
 
-module _ (k : List ℕ) (r : Prepared) (e : PreparedFor k r) (m : Context) (address : ℕ) (em : ContextOf r m address) where
-  pub lent-of : {t : List ℕ} → t ≡ roundTable → (l g x out : List ℕ) → Sizes (length l) (length x) (length out) (length g) → Lent t (r .words) (r .powers) m l g x out
-  lent-of et l g x out z = record { ready = ready-of k r e m address em et; blocks = z .blocks; most = z .most; tag-size = z .tag-size; remote-size = z .first; out-size = z .second }
+-- the round keys w, the powers p and the context of a key and an address
+module _ {k : Key} {t w p : List ℕ} (ctx : Context) (address : ℕ) (e : PreparedFor k t w p (ctx .alpha) (ctx .beta) × (value (ctx .tweak) ≡ tweak address)) where
+  -- a function of the scheme and the tweak
+  pub keyed : {A : Type 0} (f : Scheme → ℕ → A) → f (schemeOf w p) (value (ctx .tweak)) ≡ f (scheme k) (tweak address)
+  keyed f = ap₂ f (scheme-is (e .0)) (e .1)
 
-  pub judged-is : (l g x out : List ℕ) {a : ℕ × List ℕ} → judgedBy (r .words) (r .powers) m l g x out ≡ a → verdictOutcome (judge (scheme (keyFrom k)) (tweak address) (triple l g x)) out ≡ a
-  judged-is l g x out ea = sym (ap₂ (λ (S : Scheme) (T : ℕ). verdictOutcome (judge S T (triple l g x)) out) (scheme-is k r e) (em .2)) ∙ ea
+  pub lent-of : (l g x out : List ℕ) → Sizes (length l) (length x) (length out) (length g) → JudgeReady t w p ctx l g x out
+  lent-of l g x out z = record { ready = e .0 .ready; blocks = z .blocks; most = z .most; tag-size = z .tag-size; remote-size = z .first; out-size = z .second }
+
+  pub judged-is : (l g x out : List ℕ) {a : ℕ × List ℕ} → judgedBy w p ctx l g x out ≡ a → verdictOutcome (judge (scheme k) (tweak address) (triple l g x)) out ≡ a
+  judged-is l g x out ea = sym (keyed (λ S T. verdictOutcome (judge S T (triple l g x)) out)) ∙ ea
 
   -- sealing with the prepared key
-  pub scheme-sealed : (P : List ℕ) → schemeOf (r .words) (r .powers) .sealed (value (m .tweak)) P ≡ sealed (keyFrom k) address P
+  pub scheme-sealed : (P : List ℕ) → schemeOf w p .sealed (value (ctx .tweak)) P ≡ sealed k address P
   unfolding sealed scheme dcm
-  scheme-sealed P = ap₂ (λ (S : Scheme) (T : ℕ). S .sealed T P) (scheme-is k r e) (em .2)
+  scheme-sealed P = keyed (λ S T. S .sealed T P)
 
 -- three places that are written make the sealed sector
 pub sealed-is : (w p : List ℕ) (T : ℕ) (P old : List ℕ) → length old ≡ 16 → (g : ℕ) → g ≡ tagBlock (cipherNumber w) (keyOf p) T P

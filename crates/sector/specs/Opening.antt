@@ -14,8 +14,8 @@ wantedOf Plaintext S T d P = P
 wantedOf Opposite S T d P = on (S .sealed T P) (placeOf (otherSide d))
 
 -- behind the checks, with the output before
-abbrev pub openedAs : Wanted → Scheme → ℕ → ℕ → List ℕ → List ℕ → List ℕ → ℕ × List ℕ
-openedAs wanted S T d x g out = openOutcome (wantedOf wanted S T (sideOf d)) (opened S T (sideOf d) g x) out
+abbrev pub openedAs : Wanted → Scheme → ℕ → Side → List ℕ → List ℕ → List ℕ → ℕ × List ℕ
+openedAs wanted S T d x g out = openOutcome (wantedOf wanted S T d) (opened S T d g x) out
 
 -- with the refusals 1 to 4
 abbrev pub openAs : Wanted → Key → ℕ → ℕ → List ℕ → List ℕ → List ℕ → ℕ × List ℕ

@@ -5,17 +5,18 @@ use answers::Judged;
 use answers::Refusal;
 use mode::Context;
 use mode::Direction;
+use verdict::Side;
 ghost use mathlib.Core.Path.{_≡_};
 ghost use mathlib.Core.Bool.{true};
 ghost use lib.ListN.{length};
 ghost use Rattle.block.specs.Value.{value};
-ghost use Rattle.mode.specs.Prepared.{Ready};
+ghost use Rattle.mode.specs.Prepared.{Ready, schemeOf};
 ghost use Rattle.mode.specs.Scheme.{isKey, scheme};
 ghost use Rattle.mode.specs.Sealing.{tweak, sealed, keyFrom, triple};
 ghost use Rattle.answers.specs.Answers.{doneNumber, judgedNumber};
 ghost use Rattle.answers.specs.Passing.{Sizes};
-ghost use Rattle.verdict.specs.Judging.{schemeOf, sealingOf, verdictOutcome};
-ghost use Rattle.verdict.specs.Verdict.{otherSide, sideOf};
+ghost use Rattle.verdict.specs.Judging.{sideNamed, sealingOf, verdictOutcome};
+ghost use Rattle.verdict.specs.Verdict.{otherSide};
 ghost use Rattle.verdict.specs.Verdict as W;
 ghost use Rattle.sector.specs.Calls.{sealCall, judgeCall, openCall, rebuildCall, combineCall};
 ghost use Rattle.sector.specs.Opening.{openedAs, openAs};
@@ -32,10 +33,9 @@ fn judge_checked(
     ensures { λ r. ⌜ verdictOutcome (W.judge (scheme (keyFrom (now (key .entry)))) (tweak address) (triple (now (local .entry)) (now (tag .entry)) (now (remote .entry)))) (now (out .entry)) ≡ (judgedNumber r, now (out .exit)) ⌝ }
 {
     let t = aes::table();
-    let k = mode::prepare(&t, key);
+    let k = mode::prepare_at(&t, key, address);
     let w = k.words;
     let powers = k.powers;
-    let m = verdict::context(k.alpha, k.beta, address);
     let s = local.len();
     let mut sum = [0u8; 4096];
     let mut scratch = [0u8; 4096];
@@ -43,7 +43,7 @@ fn judge_checked(
         &t,
         &w,
         &powers,
-        m,
+        k.context,
         local,
         tag,
         remote,
@@ -76,17 +76,17 @@ fn seal_in(
     t: &Table,
     w: &[u32],
     powers: &[u64; 18],
-    m: Context,
+    ctx: Context,
     p: &[u8],
     local: &mut [u8],
     remote: &mut [u8],
     tag: &mut [u8],
 )
-    requires { ⌜ Ready (now t) (now w) (now powers) m × Sizes (length (now p)) (length (now local)) (length (now remote)) (length (now tag)) ⌝ }
-    ensures { λ _. ⌜ triple (now (local .exit)) (now (tag .exit)) (now (remote .exit)) ≡ schemeOf (now (w .entry)) (now (powers .entry)) .sealed (value (m .tweak)) (now (p .entry)) ⌝ }
+    requires { ⌜ Ready (now t) (now w) (now powers) ctx × Sizes (length (now p)) (length (now local)) (length (now remote)) (length (now tag)) ⌝ }
+    ensures { λ _. ⌜ triple (now (local .exit)) (now (tag .exit)) (now (remote .exit)) ≡ schemeOf (now (w .entry)) (now (powers .entry)) .sealed (value (ctx .tweak)) (now (p .entry)) ⌝ }
 {
-    let g = mode::tag_block(t, w, powers, m, p);
-    mode::seal_sides(t, w, m.beta, g, p, local, remote);
+    let g = mode::tag_block(t, w, powers, ctx, p);
+    mode::seal_sides(t, w, ctx.beta, g, p, local, remote);
     block::store(tag, 0, g);
 }
 
@@ -102,11 +102,10 @@ fn seal_checked(
     ensures { λ _. ⌜ triple (now (local .exit)) (now (tag .exit)) (now (remote .exit)) ≡ sealed (keyFrom (now (key .entry))) address (now (p .entry)) ⌝ }
 {
     let t = aes::table();
-    let k = mode::prepare(&t, key);
+    let k = mode::prepare_at(&t, key, address);
     let w = k.words;
     let powers = k.powers;
-    let m = verdict::context(k.alpha, k.beta, address);
-    seal_in(&t, &w, &powers, m, p, local, remote, tag);
+    seal_in(&t, &w, &powers, k.context, p, local, remote, tag);
 }
 
 // Seals the plaintext p: writes the local sector, the remote sector and the tag.
@@ -144,14 +143,13 @@ pub fn combine(local: &[u8], remote: &[u8], out: &mut [u8]) -> Done
     }
 }
 
-// How the side opposite to the one with this number is sealed.
-fn sealing_opposite(side: u32) -> Direction
-    ensures { λ r. ⌜ r ≡ sealingOf (otherSide (sideOf side)) ⌝ }
+// How the side opposite to this one is sealed.
+fn sealing_opposite(side: Side) -> Direction
+    ensures { λ r. ⌜ r ≡ sealingOf (otherSide (sideNamed side)) ⌝ }
 {
-    if side == 0 {
-        Direction::SealRemote
-    } else {
-        Direction::SealLocal
+    match side {
+        Side::Local => Direction::SealRemote,
+        Side::Remote => Direction::SealLocal,
     }
 }
 
@@ -166,18 +164,18 @@ fn open_in(
     t: &Table,
     w: &[u32],
     powers: &[u64; 18],
-    m: Context,
+    ctx: Context,
     wanted: Wanted,
-    side: u32,
+    side: Side,
     x: &[u8],
     tag: &[u8],
     out: &mut [u8],
     scratch: &mut [u8],
 ) -> Done
-    requires { ⌜ Ready (now t) (now w) (now powers) m × Sizes (length (now x)) (length (now out)) (length (now scratch)) (length (now tag)) ⌝ }
-    ensures { λ r. ⌜ openedAs wanted (schemeOf (now (w .entry)) (now (powers .entry))) (value (m .tweak)) side (now (x .entry)) (now (tag .entry)) (now (out .entry)) ≡ (doneNumber r, now (out .exit)) ⌝ }
+    requires { ⌜ Ready (now t) (now w) (now powers) ctx × Sizes (length (now x)) (length (now out)) (length (now scratch)) (length (now tag)) ⌝ }
+    ensures { λ r. ⌜ openedAs wanted (schemeOf (now (w .entry)) (now (powers .entry))) (value (ctx .tweak)) (sideNamed side) (now (x .entry)) (now (tag .entry)) (now (out .entry)) ≡ (doneNumber r, now (out .exit)) ⌝ }
 {
-    if verdict::opens(t, w, powers, m, side, x, tag, scratch) {
+    if verdict::opens(t, w, powers, ctx, side, x, tag, scratch) {
         match wanted {
             Wanted::Plaintext => {
                 block::copy(&scratch[..], out);
@@ -185,7 +183,7 @@ fn open_in(
             }
             Wanted::Opposite => {
                 let g = block::load(tag, 0);
-                mode::transform(t, w, m.beta, sealing_opposite(side), g, &scratch[..], out);
+                mode::transform(t, w, ctx.beta, sealing_opposite(side), g, &scratch[..], out);
                 return Done::Done;
             }
         }
@@ -197,26 +195,25 @@ fn open_checked(
     wanted: Wanted,
     key: &[u8],
     address: u64,
-    side: u32,
+    side: Side,
     x: &[u8],
     tag: &[u8],
     out: &mut [u8],
 ) -> Done
     requires { ⌜ (isKey (keyFrom (now key)) ≡ true) × Sizes (length (now x)) (length (now out)) (length (now out)) (length (now tag)) ⌝ }
-    ensures { λ r. ⌜ openedAs wanted (scheme (keyFrom (now (key .entry)))) (tweak address) side (now (x .entry)) (now (tag .entry)) (now (out .entry)) ≡ (doneNumber r, now (out .exit)) ⌝ }
+    ensures { λ r. ⌜ openedAs wanted (scheme (keyFrom (now (key .entry)))) (tweak address) (sideNamed side) (now (x .entry)) (now (tag .entry)) (now (out .entry)) ≡ (doneNumber r, now (out .exit)) ⌝ }
 {
     let t = aes::table();
-    let k = mode::prepare(&t, key);
+    let k = mode::prepare_at(&t, key, address);
     let w = k.words;
     let powers = k.powers;
-    let m = verdict::context(k.alpha, k.beta, address);
     let s = x.len();
     let mut scratch = [0u8; 4096];
     open_in(
         &t,
         &w,
         &powers,
-        m,
+        k.context,
         wanted,
         side,
         x,
@@ -240,7 +237,15 @@ fn open_as(
 {
     let checked = answers::check_open(key, x.len(), out.len(), tag.len(), side);
     match checked {
-        Done::Done => open_checked(wanted, key, address, side, x, tag, out),
+        Done::Done => open_checked(
+            wanted,
+            key,
+            address,
+            verdict::side_numbered(side),
+            x,
+            tag,
+            out,
+        ),
         Done::Refused(r) => Done::Refused(r),
     }
 }

@@ -1,11 +1,10 @@
 -- What a survey refuses, and what its checks show. Assumes nothing.
-use mathlib.Core.Path.{_≡_, refl, ap, _∙_}
+use mathlib.Core.Path.{_≡_, ap, _∙_}
 use mathlib.Core.Bool.{true}
 use mathlib.Core.List.{List}
 use mathlib.Core.Option.{Option, none, some}
 use Prim.Native.Nat.{ℕ, _≤_}
 use lib.ListN.{length}
-use borrow.Author.Tests.{le-ltb}
 use Rattle.mode.specs.Scheme.{isKey, isSize}
 use Rattle.mode.specs.Sealing.{Triple, Key, keyFrom, triple}
 use Rattle.answers.specs.declared.Done.{Done}
@@ -14,7 +13,7 @@ use Rattle.answers.specs.declared.Refusal.{Refusal}
 use Rattle.answers.specs.Answers.{refusalNumber, doneOption}
 use Rattle.answers.specs.Rules.{Rule, firstOf, settleBy, volume, shape, isShape, surveyRules}
 use Rattle.history.specs.Volume.{mirror}
-use Rattle.answers.proofs.Passing.{survey-passed}
+use Rattle.answers.proofs.Passing.{survey-passed, survey-pass}
 use Rattle.images.specs.Lent.{Room}
 use Rattle.images.proofs.Rooms.{has-room}
 use Rattle.survey.specs.Survey.{Report, refused, verdictAt, surveyed, surveyOutcome}
@@ -24,7 +23,7 @@ use Rattle.survey.specs.Survey.{Report, refused, verdictAt, surveyed, su
 -- what passes them
 pub accepts : (v : Triple) (k : Key) (s n room : ℕ) → isKey k ≡ true → isSize s ≡ true → isShape s n v ≡ true → n ≤ room
     → firstOf (surveyRules (volume k s n) (isShape s n v) room) ≡ none
-accepts v k s n room ek es eh l = rw (ek, es, eh, le-ltb room n l) refl
+accepts v k s n room ek es eh l = survey-pass v (volume k s n) room (record { key = ek; size = es; shape = eh }) l
 
 module _ (v : Triple) (k : Key) (s n : ℕ) (list : List ℕ) where
   abbrev rules : List Rule

@@ -15,7 +15,7 @@ use Rattle.answers.specs.Rules.{Volume}
 use Rattle.history.specs.Power.{Event, call, damage, CutOf, leaves, Allowed, AllAllowed, run, hold}
 use Rattle.history.specs.Volume.{refusal, mirror}
 use Rattle.history.proofs.Demand3.{mirror-sound, general}
-use Rattle.history.proofs.Images.{any-bytes, bytes-write, leaves-refused, left}
+use Rattle.history.proofs.Events.{run-bytes}
 use Rattle.answers.proofs.Passing.{Common}
 use Rattle.survey.specs.declared.Counts.{Counts}
 use Rattle.survey.specs.Survey.{tally, Report, refused, counted, verdictAt, surveyOutcome, LostAt, isKept, SurveyFacts}
@@ -33,21 +33,6 @@ found-of vol v i gone e p = false-true e
 found-of vol v i (kept P none) e p = p .0
 found-of vol v i (kept P (some q)) e p = p .0
 
--- the images still hold bytes
-leaves-bytes : (vol : Volume) (v : Triple) → AnyBytes v → (e : Event) → Allowed mirror vol v e → AnyBytes (leaves mirror vol v e)
-leaves-bytes vol v b (call a c f) m = go (refusal mirror v a c) refl
-  where
-    go : (o : Option ℕ) → refusal mirror v a c ≡ o → AnyBytes (leaves mirror vol v (call a c f))
-    go none e =
-        let cuts = subst (λ (u : Volume). CutOf (u .size) f) (sym (m .0 e)) (m .2) in
-        any-bytes (a .volume .size) (a .volume .count) _ (left mirror mirror-sound v b a c f (m .1) cuts e .images)
-    go (some k) e = subst AnyBytes (sym (leaves-refused mirror v a c f k e)) b
-leaves-bytes vol v b (damage p i x) m = bytes-write (vol .size) i p x v b (m .1 .bytes)
-
-run-bytes : (vol : Volume) (es : List Event) (v : Triple) → AnyBytes v → AllAllowed mirror vol v es → AnyBytes (run mirror vol v es)
-run-bytes vol [] v b m = b
-run-bytes vol (e ∷ es) v b m = run-bytes vol es (leaves mirror vol v e) (leaves-bytes vol v b e (m .0)) (m .1)
-
 module _ (vol : Volume) (v : Triple) (bytes : AnyBytes v) (es : List Event) (allowed : AllAllowed mirror vol v es) where
   kept-found : (i : ℕ) → i < vol .count → isKept (hold mirror vol v start es i) ≡ true → LostAt (vol .key) (vol .size) (run mirror vol v es) i → ⊥
   kept-found i lt e =
@@ -64,7 +49,7 @@ module _ (vol : Volume) (v : Triple) (bytes : AnyBytes v) (es : List Event) (all
   kept-not-lost o i lt e = go (isLost (verdictAt (mirror (vol .key)) (vol .size) (run mirror vol v es) i)) refl
     where
       go : (b : Bool) → isLost (verdictAt (mirror (vol .key)) (vol .size) (run mirror vol v es) i) ≡ b → b ≡ false
-      go true d = absurd (kept-found i lt e (lost-at (run mirror vol v es) (run-bytes vol es v bytes allowed) (vol .key) (vol .size) (vol .count) o i lt .0 d))
+      go true d = absurd (kept-found i lt e (lost-at (run mirror vol v es) (run-bytes mirror mirror-sound vol es v bytes allowed) (vol .key) (vol .size) (vol .count) o i lt .0 d))
       go false d = refl
 
   kept-counted : (list : List ℕ) (c : Counts) (after : List ℕ)

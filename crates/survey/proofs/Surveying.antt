@@ -9,12 +9,11 @@ use lib.Dec.{eqb}
 use lib.ListN.{length, drop, set, length-append}
 use lib.Seq.{drop-cons, set-at}
 use borrow.Author.Tests.{eq-eqb, ne-eqb}
-use Rattle.aes.specs.Columns.{roundTable}
 use Rattle.mode.specs.declared.Context.{Context}
-use Rattle.mode.specs.declared.Prepared.{Prepared}
-use Rattle.mode.specs.Prepared.{PreparedFor, Ready}
+use Rattle.mode.specs.Prepared.{PreparedFor, schemeOf}
 use Rattle.mode.specs.Scheme.{Scheme, dcm, scheme}
-use Rattle.mode.specs.Sealing.{tweak, sealed, keyFrom, triple}
+use Rattle.mode.specs.Sealing.{tweak, sealed, triple, Key}
+use Rattle.block.specs.declared.Block.{Block}
 use Rattle.block.specs.Value.{value}
 use Rattle.block.specs.Bytes.{part}
 use Rattle.answers.specs.declared.Judged.{Judged}
@@ -23,10 +22,11 @@ use Rattle.answers.specs.declared.Place as D
 use Rattle.answers.specs.declared.Refusal.{Refusal}
 use Rattle.answers.specs.declared.Refusal.the-variants.{KeyLength, SectorSize, OtherLength, UnknownSide, NoneFits, Lost, Clashing, VolumeShape, SectorNumber, StageOrder, ListLength, NoFrame}
 use Rattle.answers.specs.Answers.{refusalNumber, placeNamed, judgedNumber}
-use Rattle.verdict.specs.Judging.{verdictNumber, schemeOf, judgedBy}
+use Rattle.verdict.specs.Judging.{verdictNumber, judgedBy}
 use Rattle.verdict.specs.Verdict.{Verdict, whole, doubtful, lost, clashing, fits, fitsTwo, candidate, grade, judge}
-use Rattle.verdict.proofs.Prepared.{scheme-is}
-use Rattle.verdict.proofs.Numbers.{refusal-range, doubt-least, outcome-number}
+use Rattle.mode.proofs.Preparing.{scheme-is}
+use Rattle.answers.proofs.Numbers.{refusal-range, doubt-least}
+use Rattle.verdict.proofs.Numbers.{outcome-number}
 use Rattle.history.specs.Answers.{isWhole, isDoubtful, isClashing, isLost}
 use Rattle.history.specs.Volume.{mirror}
 use Rattle.images.specs.Lent.{placesOf}
@@ -233,24 +233,16 @@ module _ (w : ℕ → Verdict) (n : ℕ) (old : List ℕ) where
 
 -- ---- the prepared key
 
--- the context of any sector
-pub ready-at : {k t : List ℕ} {r : Prepared} {m : Context} → PreparedFor k r → value (m .alpha) ≡ value (r .alpha) → value (m .beta) ≡ value (r .beta) → t ≡ roundTable → Ready t (r .words) (r .powers) m
-ready-at e a b t = record { table = t; rounds = e .rounds; powers = e .powers; alpha = a ∙ e .alpha; beta = b ∙ e .beta }
-
--- the context of another sector
-pub ready-other : {t w p : List ℕ} {m o : Context} → Ready t w p m → value (o .alpha) ≡ value (m .alpha) → value (o .beta) ≡ value (m .beta) → Ready t w p o
-ready-other z a b = record { table = z .table; rounds = z .rounds; powers = z .powers; alpha = a ∙ z .alpha; beta = b ∙ z .beta }
-
-pub verdict-by : (w p : List ℕ) (m : Context) (s i : ℕ) (l g r out new : List ℕ) (j : Judged) → value (m .tweak) ≡ tweak i
-    → judgedBy w p m (part s i l) (part 16 i g) (part s i r) out ≡ (judgedNumber j, new) → Tells j (verdictBy (schemeOf w p) s l g r i)
-verdict-by w p m s i l g r out new j em e = record {
+pub verdict-by : (w p : List ℕ) (ctx : Context) (s i : ℕ) (l g r out new : List ℕ) (j : Judged) → value (ctx .tweak) ≡ tweak i
+    → judgedBy w p ctx (part s i l) (part 16 i g) (part s i r) out ≡ (judgedNumber j, new) → Tells j (verdictBy (schemeOf w p) s l g r i)
+verdict-by w p ctx s i l g r out new j em e = record {
   number =
       ap (λ (x : ℕ × List ℕ). x .0) (sym e)
-      ∙ outcome-number (judge (schemeOf w p) (value (m .tweak)) (placesOf s i l g r)) out
+      ∙ outcome-number (judge (schemeOf w p) (value (ctx .tweak)) (placesOf s i l g r)) out
       ∙ ap (λ (T : ℕ). verdictNumber (judge (schemeOf w p) T (placesOf s i l g r))) em;
 }
 
-pub survey-keyed : (k : List ℕ) (r : Prepared) → PreparedFor k r → (s n : ℕ) (l g x list : List ℕ) {a : Report × List ℕ}
-    → surveyed (verdictBy (schemeOf (r .words) (r .powers)) s l g x) n list ≡ a → surveyed (verdictAt (mirror (keyFrom k)) s (triple l g x)) n list ≡ a
+pub survey-keyed : {k : Key} {t w p : List ℕ} {alpha beta : Block} → PreparedFor k t w p alpha beta → (s n : ℕ) (l g x list : List ℕ) {a : Report × List ℕ}
+    → surveyed (verdictBy (schemeOf w p) s l g x) n list ≡ a → surveyed (verdictAt (mirror k) s (triple l g x)) n list ≡ a
 unfolding judge grade fitsTwo fits candidate mirror sealed scheme dcm
-survey-keyed k r e s n l g x list d = sym (ap (λ (S : Scheme). surveyed (verdictBy S s l g x) n list) (scheme-is k r e)) ∙ d
+survey-keyed e s n l g x list d = sym (ap (λ (S : Scheme). surveyed (verdictBy S s l g x) n list) (scheme-is e)) ∙ d

@@ -3,14 +3,13 @@ use aes::Table;
 use answers::Done;
 use answers::Judged;
 use answers::Refusal;
-use mode::Context;
+use block::Block;
 ghost use mathlib.Core.Path.{_≡_};
 ghost use mathlib.Core.Bool.{true};
 ghost use Prim.Native.Nat.{_<_, _≤_};
 ghost use lib.ListN.{length};
-ghost use Rattle.mode.specs.Prepared.{Ready};
+ghost use Rattle.mode.specs.Prepared.{KeyReady, schemeOf};
 ghost use Rattle.mode.specs.Scheme.{isKey};
-ghost use Rattle.verdict.specs.Judging.{schemeOf};
 ghost use Rattle.mode.specs.Sealing.{keyFrom, triple};
 ghost use Rattle.history.specs.Volume.{mirror};
 ghost use Rattle.images.specs.Lent.{Room, Within};
@@ -32,12 +31,13 @@ pub enum Surveyed {
     Refused(Refusal),
 }
 
-// Judges sector i; m is the context of any sector, since only the tweak differs.
+// Judges sector i, whose number makes the context.
 fn judge_sector(
     t: &Table,
     w: &[u32],
     powers: &[u64; 18],
-    m: Context,
+    alpha: Block,
+    beta: Block,
     s: usize,
     i: usize,
     local: &[u8],
@@ -45,13 +45,26 @@ fn judge_sector(
     remote: &[u8],
     plain: &mut [u8],
     sum: &mut [u8],
-    work: &mut [u8],
+    scratch: &mut [u8],
 ) -> Judged
-    requires { ⌜ Ready (now t) (now w) (now powers) m × Within s i (length (now local)) (length (now tags)) (length (now remote)) × (length (now plain) ≡ s) × (length (now sum) ≡ s) × (length (now work) ≡ s) ⌝ }
+    requires { ⌜ KeyReady (now t) (now w) (now powers) alpha beta × Within s i (length (now local)) (length (now tags)) (length (now remote)) × (length (now plain) ≡ s) × (length (now sum) ≡ s) × (length (now scratch) ≡ s) ⌝ }
     ensures { λ r. ⌜ Tells r (verdictBy (schemeOf (now (w .entry)) (now (powers .entry))) s (now (local .entry)) (now (tags .entry)) (now (remote .entry)) i) ⌝ }
 {
-    let c = verdict::context(m.alpha, m.beta, i as u64);
-    images::judge_part(t, w, powers, c, s, i, local, tags, remote, plain, sum, work)
+    let ctx = mode::context_at(alpha, beta, i as u64);
+    images::judge_part(
+        t,
+        w,
+        powers,
+        ctx,
+        s,
+        i,
+        local,
+        tags,
+        remote,
+        plain,
+        sum,
+        scratch,
+    )
 }
 
 // One more sector counted. Judging refuses nothing but lost and clashing.
@@ -102,12 +115,13 @@ fn thousandths(whole: usize, n: usize) -> usize
     whole * 1000 / n
 }
 
-// The survey with a prepared key; m is the context of any sector.
+// The survey with a prepared key.
 fn survey_in(
     t: &Table,
     w: &[u32],
     powers: &[u64; 18],
-    m: Context,
+    alpha: Block,
+    beta: Block,
     s: usize,
     n: usize,
     local: &[u8],
@@ -116,9 +130,9 @@ fn survey_in(
     list: &mut [u32],
     plain: &mut [u8],
     sum: &mut [u8],
-    work: &mut [u8],
+    scratch: &mut [u8],
 ) -> Counts
-    requires { ⌜ Ready (now t) (now w) (now powers) m × Room s n (length (now local)) (length (now tags)) (length (now remote)) × (n ≤ length (now list)) × (length (now plain) ≡ s) × (length (now sum) ≡ s) × (length (now work) ≡ s) ⌝ }
+    requires { ⌜ KeyReady (now t) (now w) (now powers) alpha beta × Room s n (length (now local)) (length (now tags)) (length (now remote)) × (n ≤ length (now list)) × (length (now plain) ≡ s) × (length (now sum) ≡ s) × (length (now scratch) ≡ s) ⌝ }
     ensures { λ r. ⌜ surveyed (verdictBy (schemeOf (now (w .entry)) (now (powers .entry))) s (now (local .entry)) (now (tags .entry)) (now (remote .entry))) n (now (list .entry)) ≡ (counted r, now (list .exit)) ⌝ }
 {
     let mut counts = Counts {
@@ -130,7 +144,21 @@ fn survey_in(
     };
     let mut i = 0usize;
     while i < n {
-        let judged = judge_sector(t, w, powers, m, s, i, local, tags, remote, plain, sum, work);
+        let judged = judge_sector(
+            t,
+            w,
+            powers,
+            alpha,
+            beta,
+            s,
+            i,
+            local,
+            tags,
+            remote,
+            plain,
+            sum,
+            scratch,
+        );
         let at = i - counts.whole;
         list_number(list, at, i, judged);
         let next = count_verdict(counts, judged);
@@ -146,7 +174,8 @@ fn survey_prepared(
     t: &Table,
     w: &[u32],
     powers: &[u64; 18],
-    m: Context,
+    alpha: Block,
+    beta: Block,
     s: usize,
     n: usize,
     local: &[u8],
@@ -154,17 +183,18 @@ fn survey_prepared(
     remote: &[u8],
     list: &mut [u32],
 ) -> Counts
-    requires { ⌜ Ready (now t) (now w) (now powers) m × Room s n (length (now local)) (length (now tags)) (length (now remote)) × (n ≤ length (now list)) ⌝ }
+    requires { ⌜ KeyReady (now t) (now w) (now powers) alpha beta × Room s n (length (now local)) (length (now tags)) (length (now remote)) × (n ≤ length (now list)) ⌝ }
     ensures { λ r. ⌜ surveyed (verdictBy (schemeOf (now (w .entry)) (now (powers .entry))) s (now (local .entry)) (now (tags .entry)) (now (remote .entry))) n (now (list .entry)) ≡ (counted r, now (list .exit)) ⌝ }
 {
     let mut plain = [0u8; 4096];
     let mut sum = [0u8; 4096];
-    let mut work = [0u8; 4096];
+    let mut scratch = [0u8; 4096];
     survey_in(
         t,
         w,
         powers,
-        m,
+        alpha,
+        beta,
         s,
         n,
         local,
@@ -173,7 +203,7 @@ fn survey_prepared(
         list,
         &mut plain[..s],
         &mut sum[..s],
-        &mut work[..s],
+        &mut scratch[..s],
     )
 }
 
@@ -193,8 +223,19 @@ fn survey_checked(
     let k = mode::prepare(&t, key);
     let w = k.words;
     let powers = k.powers;
-    let m = verdict::context(k.alpha, k.beta, 0);
-    survey_prepared(&t, &w, &powers, m, s, n, local, tags, remote, list)
+    survey_prepared(
+        &t,
+        &w,
+        &powers,
+        k.alpha,
+        k.beta,
+        s,
+        n,
+        local,
+        tags,
+        remote,
+        list,
+    )
 }
 
 // Counts the sectors by their verdict, and lists the numbers of those that are not whole.

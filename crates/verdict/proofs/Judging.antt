@@ -17,7 +17,8 @@ use Rattle.mode.specs.Sealing.{Triple, blockwise, tagBlock, pad, remoteBlock, s
 use Rattle.mode.specs.Scheme.{Place, local, tag, remote, on, wide, Sector, Scheme, Lawful, dcm}
 use Rattle.mode.specs.Transforms.{transformed}
 use Rattle.mode.proofs.Laws.{dcm-lawful}
-use Rattle.verdict.specs.Judging.{verdictOutcome, schemeOf, Lent, judgedBy, SumFits, SumFails}
+use Rattle.mode.specs.Prepared.{schemeOf}
+use Rattle.verdict.specs.Judging.{verdictOutcome, JudgeReady, judgedBy, SumFits, SumFails}
 use Rattle.verdict.specs.Verdict.{Fits, fits, candidate, judge, Verdict, Side, localSide, remoteSide, openSide}
 use Rattle.verdict.proofs.JudgeExact.{fits-Fits, misfits}
 use Rattle.verdict.proofs.Cases as cases
@@ -32,7 +33,7 @@ pub record Known (l g r : List ℕ) : Type 0 where
   pub tag-size : length g ≡ 16
   pub remote-size : length r ≡ length l
 
-pub known-of : {t w p : List ℕ} {m : Context} {l g r out : List ℕ} → Lent t w p m l g r out → Bytes l → Bytes g → Bytes r → Known l g r
+pub known-of : {t w p : List ℕ} {m : Context} {l g r out : List ℕ} → JudgeReady t w p m l g r out → Bytes l → Bytes g → Bytes r → Known l g r
 known-of e bl bg br = record { bytes-l = bl; bytes-g = bg; bytes-r = br; blocks = e .blocks; tag-size = e .tag-size; remote-size = e .remote-size }
 
 module _ (w p : List ℕ) (m : Context) (l g r : List ℕ) (known : Known l g r) where

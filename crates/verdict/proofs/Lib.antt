@@ -4,5 +4,4 @@ pub mod Cases
 pub mod Sides
 pub mod Judging
 pub mod Opened
-pub mod Prepared
 pub mod Numbers

@@ -1,34 +1,13 @@
--- The numbers of answers: 0, the refusals below 128, the doubtful places above. Assumes nothing.
+-- The numbers of verdicts. Assumes nothing.
 use mathlib.Core.Path.{_≡_, refl, sym, ap, _∙_}
 use mathlib.Core.Bool.{cond}
 use mathlib.Core.List.{List, []}
-use Prim.Native.Nat.{ℕ, _<_}
-use lib.Dec.{eqb, lit<}
+use Prim.Native.Nat.{ℕ}
+use lib.Dec.{eqb}
 use Rattle.mode.specs.Scheme.{Place, local, tag, remote}
-use Rattle.answers.specs.declared.Refusal.{Refusal}
-use Rattle.answers.specs.declared.Refusal.the-variants.{KeyLength, SectorSize, OtherLength, UnknownSide, NoneFits, Lost, Clashing, VolumeShape, SectorNumber, StageOrder, ListLength, NoFrame}
-use Rattle.answers.specs.Answers.{doubtNumber, refusalNumber}
+use Rattle.answers.specs.Answers.{doubtNumber}
 use Rattle.verdict.specs.Judging.{verdictOutcome, verdictNumber}
 use Rattle.verdict.specs.Verdict.{Verdict, whole, doubtful, lost, clashing}
-
-pub refusal-range : (f : Refusal) → (0 < refusalNumber f) × (refusalNumber f < 128)
-refusal-range KeyLength = (lit< tt, lit< tt)
-refusal-range SectorSize = (lit< tt, lit< tt)
-refusal-range OtherLength = (lit< tt, lit< tt)
-refusal-range UnknownSide = (lit< tt, lit< tt)
-refusal-range NoneFits = (lit< tt, lit< tt)
-refusal-range Lost = (lit< tt, lit< tt)
-refusal-range Clashing = (lit< tt, lit< tt)
-refusal-range VolumeShape = (lit< tt, lit< tt)
-refusal-range SectorNumber = (lit< tt, lit< tt)
-refusal-range StageOrder = (lit< tt, lit< tt)
-refusal-range ListLength = (lit< tt, lit< tt)
-refusal-range NoFrame = (lit< tt, lit< tt)
-
-pub doubt-least : (p : Place) → 128 < doubtNumber p
-doubt-least local = lit< tt
-doubt-least tag = lit< tt
-doubt-least remote = lit< tt
 
 -- the number of a verdict does not depend on the output
 pub outcome-number : (w : Verdict) (out : List ℕ) → verdictOutcome w out .0 ≡ verdictNumber w

@@ -16,7 +16,8 @@ use Rattle.mode.specs.Sealing.{blockwise, tagBlock, pad, localBlock, remoteBloc
 use Rattle.mode.specs.Scheme.{on, Scheme, Lawful, dcm}
 use Rattle.mode.specs.Transforms.{transformed}
 use Rattle.mode.proofs.Laws.{tag-lt, dcm-lawful}
-use Rattle.verdict.specs.Judging.{schemeOf, sealingOf}
+use Rattle.mode.specs.Prepared.{schemeOf}
+use Rattle.verdict.specs.Judging.{sealingOf}
 use Rattle.verdict.specs.Verdict.{Side, localSide, remoteSide, placeOf, otherSide, openSide, opened, Opens}
 use Rattle.verdict.proofs.OpenExact.{open-plain, opens-one, opened-some, opened-none}
 use Rattle.verdict.proofs.Sides.{tag-loaded}

@@ -19,7 +19,8 @@ use Rattle.mode.specs.Sealing.{blockwise, tagBlock, pad, openLocalBlock, openRe
 use Rattle.mode.specs.Scheme.{dcm}
 use Rattle.mode.specs.Transforms.{transformed}
 use Rattle.mode.proofs.Laws.{tag-lt}
-use Rattle.verdict.specs.Judging.{schemeOf, openingOf}
+use Rattle.mode.specs.Prepared.{schemeOf}
+use Rattle.verdict.specs.Judging.{openingOf}
 use Rattle.verdict.specs.Verdict.{Side, localSide, remoteSide, sideOf, openSide}
 
 -- a tag as a block

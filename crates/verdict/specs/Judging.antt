@@ -7,21 +7,22 @@ use Prim.Native.Nat.{ℕ, _≤_, _%_}
 use lib.ListN.{length}
 use Rattle.block.specs.Bytes.{xorBytes}
 use Rattle.block.specs.Value.{value}
-use Rattle.fips197.specs.Aes.{cipherNumber}
-use Rattle.hash.specs.Powers.{keyOf}
 use Rattle.mode.specs.declared.Context.{Context}
 use Rattle.mode.specs.declared.Direction.{Direction}
 use Rattle.mode.specs.declared.Direction.the-variants.{SealLocal, SealRemote, OpenLocal, OpenRemote}
-use Rattle.mode.specs.Prepared.{Ready}
-use Rattle.mode.specs.Scheme.{Place, tag, remote, Scheme, dcm}
+use Rattle.mode.specs.Prepared.{Ready, schemeOf}
+use Rattle.mode.specs.Scheme.{Place, tag, remote}
 use Rattle.mode.specs.Sealing.{triple}
 use Rattle.answers.specs.Answers.{foundNumber}
 use Rattle.answers.specs.Rules.{settle}
+use Rattle.verdict.specs.declared.Side as D
+use Rattle.verdict.specs.declared.Side.the-variants.{Local, Remote}
 use Rattle.verdict.specs.Verdict.{Verdict, whole, doubtful, lost, clashing, fits, judge, Side, localSide, remoteSide}
 
--- the mode under the round keys w and the powers p of the hash key
-abbrev pub schemeOf : List ℕ → List ℕ → Scheme
-schemeOf w p = dcm (cipherNumber w) (keyOf p)
+-- the side that the code's enum names
+abbrev pub sideNamed : D.Side → Side
+sideNamed Local = localSide
+sideNamed Remote = remoteSide
 
 -- how the blocks of a side are opened
 abbrev pub openingOf : Side → Direction
@@ -34,8 +35,8 @@ sealingOf localSide = SealLocal
 sealingOf remoteSide = SealRemote
 
 -- a prepared key, and the local sector l, the tag g, the remote sector r and an output of lengths that fit
-pub record Lent (t w p : List ℕ) (m : Context) (l g r out : List ℕ) : Type 0 where
-  pub ready : Ready t w p m
+pub record JudgeReady (t w p : List ℕ) (ctx : Context) (l g r out : List ℕ) : Type 0 where
+  pub ready : Ready t w p ctx
   pub blocks : length l % 16 ≡ 0
   pub most : length l ≤ 4096
   pub tag-size : length g ≡ 16
@@ -75,14 +76,14 @@ verdictNumber w = verdictOutcome w [] .0
 
 -- what judging answers and leaves
 abbrev pub judgedBy : List ℕ → List ℕ → Context → List ℕ → List ℕ → List ℕ → List ℕ → ℕ × List ℕ
-judgedBy w p m l g r out = verdictOutcome (judge (schemeOf w p) (value (m .tweak)) (triple l g r)) out
+judgedBy w p ctx l g r out = verdictOutcome (judge (schemeOf w p) (value (ctx .tweak)) (triple l g r)) out
 
 -- local ⊕ remote fits both sides, and not the tag
-pub record SumFits (w p : List ℕ) (m : Context) (l g r sum : List ℕ) : Type 0 where
+pub record SumFits (w p : List ℕ) (ctx : Context) (l g r sum : List ℕ) : Type 0 where
   pub is-sum : sum ≡ xorBytes l r
-  pub fits-remote : fits (schemeOf w p) (value (m .tweak)) (triple l g r) remote sum ≡ true
-  pub fits-no-tag : fits (schemeOf w p) (value (m .tweak)) (triple l g r) tag sum ≡ false
+  pub fits-remote : fits (schemeOf w p) (value (ctx .tweak)) (triple l g r) remote sum ≡ true
+  pub fits-no-tag : fits (schemeOf w p) (value (ctx .tweak)) (triple l g r) tag sum ≡ false
 
 -- local ⊕ remote does not fit the sides
 unfoldable pub SumFails : List ℕ → List ℕ → Context → List ℕ → List ℕ → List ℕ → Type 0
-SumFails w p m l g r = fits (schemeOf w p) (value (m .tweak)) (triple l g r) remote (xorBytes l r) ≡ false
+SumFails w p ctx l g r = fits (schemeOf w p) (value (ctx .tweak)) (triple l g r) remote (xorBytes l r) ≡ false

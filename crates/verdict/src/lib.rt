@@ -4,7 +4,6 @@ use aes::Table;
 use answers::Judged;
 use answers::Place;
 use answers::Refusal;
-use block::Block;
 use mode::Context;
 use mode::Direction;
 ghost use mathlib.Core.Path.{_≡_};
@@ -12,31 +11,35 @@ ghost use Prim.Native.Nat.{_≤_, _%_};
 ghost use lib.ListN.{length};
 ghost use Rattle.block.specs.Bytes.{same};
 ghost use Rattle.block.specs.Value.{value};
-ghost use Rattle.mode.specs.Prepared.{Ready};
-ghost use Rattle.mode.specs.Sealing.{tweak};
+ghost use Rattle.mode.specs.Prepared.{Ready, schemeOf};
 ghost use Rattle.answers.specs.Answers.{judgedNumber};
-ghost use Rattle.verdict.specs.Judging.{schemeOf, openingOf, Lent, judgedBy, SumFits, SumFails};
+ghost use Rattle.verdict.specs.Judging.{sideNamed, openingOf, JudgeReady, judgedBy, SumFits, SumFails};
 ghost use Rattle.verdict.specs.Verdict.{sideOf, openSide};
 
-// A prepared key's blocks with the tweak of an address.
-pub fn context(alpha: Block, beta: Block, address: u64) -> Context
-    ensures { λ r. ⌜ (value (r .alpha) ≡ value alpha) × (value (r .beta) ≡ value beta) × (value (r .tweak) ≡ tweak address) ⌝ }
+// A side of a sector. It is a number only where a caller gives it.
+pub enum Side {
+    Local,
+    Remote,
+}
+
+// The side with this number, 0 or 1.
+pub fn side_numbered(number: u32) -> Side
+    ensures { λ r. ⌜ sideNamed r ≡ sideOf number ⌝ }
 {
-    Context {
-        alpha,
-        beta,
-        tweak: Block { hi: 0, lo: address },
+    if number == 0 {
+        Side::Local
+    } else {
+        Side::Remote
     }
 }
 
-// How the side with this number is opened.
-fn opening(side: u32) -> Direction
-    ensures { λ r. ⌜ r ≡ openingOf (sideOf side) ⌝ }
+// How a side is opened.
+fn opening(side: Side) -> Direction
+    ensures { λ r. ⌜ r ≡ openingOf (sideNamed side) ⌝ }
 {
-    if side == 0 {
-        Direction::OpenLocal
-    } else {
-        Direction::OpenRemote
+    match side {
+        Side::Local => Direction::OpenLocal,
+        Side::Remote => Direction::OpenRemote,
     }
 }
 
@@ -45,18 +48,18 @@ pub fn opens(
     t: &Table,
     w: &[u32],
     powers: &[u64; 18],
-    m: Context,
-    side: u32,
+    ctx: Context,
+    side: Side,
     x: &[u8],
     tag: &[u8],
     out: &mut [u8],
 ) -> bool
-    requires { ⌜ Ready (now t) (now w) (now powers) m × (length (now x) % 16 ≡ 0) × (length (now x) ≤ 4096) × (length (now tag) ≡ 16) × (length (now out) ≡ length (now x)) ⌝ }
-    ensures { λ r. ⌜ (now (out .exit) ≡ openSide (schemeOf (now (w .entry)) (now (powers .entry))) (sideOf side) (now (tag .entry)) (now (x .entry))) × (r ≡ same (now (tag .entry)) (schemeOf (now (w .entry)) (now (powers .entry)) .sealed (value (m .tweak)) (now (out .exit)) .tag)) ⌝ }
+    requires { ⌜ Ready (now t) (now w) (now powers) ctx × (length (now x) % 16 ≡ 0) × (length (now x) ≤ 4096) × (length (now tag) ≡ 16) × (length (now out) ≡ length (now x)) ⌝ }
+    ensures { λ r. ⌜ (now (out .exit) ≡ openSide (schemeOf (now (w .entry)) (now (powers .entry))) (sideNamed side) (now (tag .entry)) (now (x .entry))) × (r ≡ same (now (tag .entry)) (schemeOf (now (w .entry)) (now (powers .entry)) .sealed (value (ctx .tweak)) (now (out .exit)) .tag)) ⌝ }
 {
     let g = block::load(tag, 0);
-    mode::transform(t, w, m.beta, opening(side), g, x, out);
-    block::equal(mode::tag_block(t, w, powers, m, &out[..]), g)
+    mode::transform(t, w, ctx.beta, opening(side), g, x, out);
+    block::equal(mode::tag_block(t, w, powers, ctx, &out[..]), g)
 }
 
 // Judges where local ⊕ remote, in `sum`, fits both sides and not the tag: it is the one plaintext unless a side and the tag give another.
@@ -64,7 +67,7 @@ fn judge_fitting_sum(
     t: &Table,
     w: &[u32],
     powers: &[u64; 18],
-    m: Context,
+    ctx: Context,
     local: &[u8],
     tag: &[u8],
     remote: &[u8],
@@ -72,13 +75,13 @@ fn judge_fitting_sum(
     sum: &[u8],
     scratch: &mut [u8],
 ) -> Judged
-    requires { ⌜ Lent (now t) (now w) (now powers) m (now local) (now tag) (now remote) (now out) × (length (now scratch) ≡ length (now local)) × SumFits (now w) (now powers) m (now local) (now tag) (now remote) (now sum) ⌝ }
-    ensures { λ r. ⌜ judgedBy (now (w .entry)) (now (powers .entry)) m (now (local .entry)) (now (tag .entry)) (now (remote .entry)) (now (out .entry)) ≡ (judgedNumber r, now (out .exit)) ⌝ }
+    requires { ⌜ JudgeReady (now t) (now w) (now powers) ctx (now local) (now tag) (now remote) (now out) × (length (now scratch) ≡ length (now local)) × SumFits (now w) (now powers) ctx (now local) (now tag) (now remote) (now sum) ⌝ }
+    ensures { λ r. ⌜ judgedBy (now (w .entry)) (now (powers .entry)) ctx (now (local .entry)) (now (tag .entry)) (now (remote .entry)) (now (out .entry)) ≡ (judgedNumber r, now (out .exit)) ⌝ }
 {
-    if opens(t, w, powers, m, 0, local, tag, scratch) {
+    if opens(t, w, powers, ctx, Side::Local, local, tag, scratch) {
         return Judged::Refused(Refusal::Clashing);
     }
-    if opens(t, w, powers, m, 1, remote, tag, scratch) {
+    if opens(t, w, powers, ctx, Side::Remote, remote, tag, scratch) {
         return Judged::Refused(Refusal::Clashing);
     }
     block::copy(sum, out);
@@ -90,7 +93,7 @@ fn judge_failing_sum(
     t: &Table,
     w: &[u32],
     powers: &[u64; 18],
-    m: Context,
+    ctx: Context,
     local: &[u8],
     tag: &[u8],
     remote: &[u8],
@@ -98,11 +101,11 @@ fn judge_failing_sum(
     left: &mut [u8],
     right: &mut [u8],
 ) -> Judged
-    requires { ⌜ Lent (now t) (now w) (now powers) m (now local) (now tag) (now remote) (now out) × (length (now left) ≡ length (now local)) × (length (now right) ≡ length (now local)) × SumFails (now w) (now powers) m (now local) (now tag) (now remote) ⌝ }
-    ensures { λ r. ⌜ judgedBy (now (w .entry)) (now (powers .entry)) m (now (local .entry)) (now (tag .entry)) (now (remote .entry)) (now (out .entry)) ≡ (judgedNumber r, now (out .exit)) ⌝ }
+    requires { ⌜ JudgeReady (now t) (now w) (now powers) ctx (now local) (now tag) (now remote) (now out) × (length (now left) ≡ length (now local)) × (length (now right) ≡ length (now local)) × SumFails (now w) (now powers) ctx (now local) (now tag) (now remote) ⌝ }
+    ensures { λ r. ⌜ judgedBy (now (w .entry)) (now (powers .entry)) ctx (now (local .entry)) (now (tag .entry)) (now (remote .entry)) (now (out .entry)) ≡ (judgedNumber r, now (out .exit)) ⌝ }
 {
-    let from_local = opens(t, w, powers, m, 0, local, tag, left);
-    let from_remote = opens(t, w, powers, m, 1, remote, tag, right);
+    let from_local = opens(t, w, powers, ctx, Side::Local, local, tag, left);
+    let from_remote = opens(t, w, powers, ctx, Side::Remote, remote, tag, right);
     if from_local {
         if from_remote {
             return Judged::Refused(Refusal::Clashing);
@@ -123,7 +126,7 @@ pub fn judge_in(
     t: &Table,
     w: &[u32],
     powers: &[u64; 18],
-    m: Context,
+    ctx: Context,
     local: &[u8],
     tag: &[u8],
     remote: &[u8],
@@ -131,18 +134,29 @@ pub fn judge_in(
     sum: &mut [u8],
     scratch: &mut [u8],
 ) -> Judged
-    requires { ⌜ Lent (now t) (now w) (now powers) m (now local) (now tag) (now remote) (now out) × (length (now sum) ≡ length (now local)) × (length (now scratch) ≡ length (now local)) ⌝ }
-    ensures { λ r. ⌜ judgedBy (now (w .entry)) (now (powers .entry)) m (now (local .entry)) (now (tag .entry)) (now (remote .entry)) (now (out .entry)) ≡ (judgedNumber r, now (out .exit)) ⌝ }
+    requires { ⌜ JudgeReady (now t) (now w) (now powers) ctx (now local) (now tag) (now remote) (now out) × (length (now sum) ≡ length (now local)) × (length (now scratch) ≡ length (now local)) ⌝ }
+    ensures { λ r. ⌜ judgedBy (now (w .entry)) (now (powers .entry)) ctx (now (local .entry)) (now (tag .entry)) (now (remote .entry)) (now (out .entry)) ≡ (judgedNumber r, now (out .exit)) ⌝ }
 {
     block::xor_bytes(local, remote, sum);
-    let g = mode::tag_block(t, w, powers, m, &sum[..]);
-    mode::transform(t, w, m.beta, Direction::SealRemote, g, &sum[..], scratch);
+    let g = mode::tag_block(t, w, powers, ctx, &sum[..]);
+    mode::transform(t, w, ctx.beta, Direction::SealRemote, g, &sum[..], scratch);
     if block::same(remote, &scratch[..]) {
         if block::equal(g, block::load(tag, 0)) {
             block::copy(&sum[..], out);
             return Judged::Whole;
         }
-        return judge_fitting_sum(t, w, powers, m, local, tag, remote, out, &sum[..], scratch);
+        return judge_fitting_sum(
+            t,
+            w,
+            powers,
+            ctx,
+            local,
+            tag,
+            remote,
+            out,
+            &sum[..],
+            scratch,
+        );
     }
-    judge_failing_sum(t, w, powers, m, local, tag, remote, out, sum, scratch)
+    judge_failing_sum(t, w, powers, ctx, local, tag, remote, out, sum, scratch)
 }

@@ -1,6 +1,2 @@
-pub mod Writes
-pub mod Verdicts
-pub mod Stages
-pub mod Mends
 pub mod Keyed
 pub mod Public

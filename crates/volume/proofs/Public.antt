@@ -21,7 +21,7 @@ use Rattle.answers.proofs.Passing.{length-due}
 use Rattle.history.proofs.Refusals.{passed}
 use Rattle.images.specs.Lent.{Within}
 use Rattle.images.proofs.Rooms.{has-room, within-room, within-same}
-use Rattle.volume.specs.Inner.{allPlaces, sealInto, lateOutcome}
+use Rattle.stages.specs.Inner.{Scratch, allPlaces, sealInto, lateOutcome}
 
 -- s zeros, a part of the 4,096
 zeros-are : (s : ℕ) → s ≤ 4096 → take {A = ℕ} s (replicate 4096 0) ≡ replicate s 0
@@ -29,6 +29,9 @@ zeros-are s h = take-zeros s 4096 h
 
 pub prefix-size : (s x : ℕ) → s ≤ 4096 → length (take {A = ℕ} s (replicate 4096 x)) ≡ s
 prefix-size s x h = simp (length-take, length-replicate) (omega arith)
+
+pub scratch-sized : (s : ℕ) → s ≤ 4096 → let z : List ℕ = take s (replicate 4096 0) in Scratch s z z z
+scratch-sized s h = let e = prefix-size s 0 h in record { plain-size = e; sum-size = e; scratch-size = e }
 
 module _ (k : List ℕ) (s n i : ℕ) (l g r : List ℕ) where
   abbrev a : Args

@@ -1,208 +1,20 @@
 // Calls on one sector of a volume (document 01): blank, three write stages, read and mend. Each call takes any input and checks it for
 // itself.
-use aes::Table;
 use answers::Done;
 use answers::Judged;
-use answers::Place;
-use answers::Refusal;
-use mode::Context;
-use mode::Direction;
 ghost use mathlib.Core.Path.{_≡_};
 ghost use mathlib.Core.Bool.{true};
 ghost use lib.ListN.{length};
-ghost use Rattle.block.specs.Value.{value};
-ghost use Rattle.mode.specs.Prepared.{Ready};
 ghost use Rattle.mode.specs.Scheme.{isKey};
-ghost use Rattle.answers.specs.Answers.{placeNamed, doneNumber, judgedNumber};
-ghost use Rattle.answers.specs.Rules.{args};
-ghost use Rattle.verdict.specs.Judging.{verdictOutcome, schemeOf};
 ghost use Rattle.mode.specs.Sealing.{keyFrom, triple};
+ghost use Rattle.answers.specs.Answers.{doneNumber, judgedNumber};
+ghost use Rattle.answers.specs.Rules.{args};
+ghost use Rattle.verdict.specs.Judging.{verdictOutcome};
 ghost use Rattle.verdict.specs.Verdict.{judge};
 ghost use Rattle.history.specs.Volume.{mirror, outcome, readOutcome};
 ghost use Rattle.history.specs.Volume as W;
 ghost use Rattle.images.specs.Lent.{Within, placesOf};
-ghost use Rattle.volume.specs.Inner.{allPlaces, one, sealInto, lateOutcome};
-
-// The first stage with a prepared key: p's local sector, if the sector is whole.
-fn first_in(
-    t: &Table,
-    w: &[u32],
-    powers: &[u64; 18],
-    m: Context,
-    p: &[u8],
-    i: usize,
-    local: &mut [u8],
-    tags: &[u8],
-    remote: &[u8],
-    plain: &mut [u8],
-    sum: &mut [u8],
-    scratch: &mut [u8],
-) -> Done
-    requires { ⌜ Ready (now t) (now w) (now powers) m × Within (length (now p)) i (length (now local)) (length (now tags)) (length (now remote)) × (length (now plain) ≡ length (now p)) × (length (now sum) ≡ length (now p)) × (length (now scratch) ≡ length (now p)) ⌝ }
-    ensures { λ r. ⌜ lateOutcome (schemeOf (now (w .entry)) (now (powers .entry))) (value (m .tweak)) (length (now (p .entry))) i (triple (now (local .entry)) (now (tags .entry)) (now (remote .entry))) (W.first (now (p .entry))) ≡ (doneNumber r, triple (now (local .exit)) (now (tags .entry)) (now (remote .entry))) ⌝ }
-{
-    let s = p.len();
-    let judged = images::judge_part(
-        t,
-        w,
-        powers,
-        m,
-        s,
-        i,
-        &local[..],
-        tags,
-        remote,
-        plain,
-        sum,
-        scratch,
-    );
-    match judged {
-        Judged::Whole => {
-            let g = mode::tag_block(t, w, powers, m, p);
-            images::write_side(t, w, m.beta, Direction::SealLocal, g, p, i, local);
-            Done::Done
-        }
-        Judged::Doubtful(_) => Done::Refused(Refusal::StageOrder),
-        Judged::Refused(_) => Done::Refused(Refusal::StageOrder),
-    }
-}
-
-// The second stage with a prepared key: p's tag, if p fits the local place.
-fn second_in(
-    t: &Table,
-    w: &[u32],
-    powers: &[u64; 18],
-    m: Context,
-    p: &[u8],
-    i: usize,
-    local: &[u8],
-    tags: &mut [u8],
-    remote: &[u8],
-    scratch: &mut [u8],
-) -> Done
-    requires { ⌜ Ready (now t) (now w) (now powers) m × Within (length (now p)) i (length (now local)) (length (now tags)) (length (now remote)) × (length (now scratch) ≡ length (now p)) ⌝ }
-    ensures { λ r. ⌜ lateOutcome (schemeOf (now (w .entry)) (now (powers .entry))) (value (m .tweak)) (length (now (p .entry))) i (triple (now (local .entry)) (now (tags .entry)) (now (remote .entry))) (W.second (now (p .entry))) ≡ (doneNumber r, triple (now (local .entry)) (now (tags .exit)) (now (remote .entry))) ⌝ }
-{
-    let g = mode::tag_block(t, w, powers, m, p);
-    if images::fits_local(t, w, m.beta, g, p, i, local, scratch) {
-        images::write_tag(g, i, tags);
-        return Done::Done;
-    }
-    Done::Refused(Refusal::StageOrder)
-}
-
-// The third stage with a prepared key: p's remote sector, if p fits the local place and the tag.
-fn third_in(
-    t: &Table,
-    w: &[u32],
-    powers: &[u64; 18],
-    m: Context,
-    p: &[u8],
-    i: usize,
-    local: &[u8],
-    tags: &[u8],
-    remote: &mut [u8],
-    scratch: &mut [u8],
-) -> Done
-    requires { ⌜ Ready (now t) (now w) (now powers) m × Within (length (now p)) i (length (now local)) (length (now tags)) (length (now remote)) × (length (now scratch) ≡ length (now p)) ⌝ }
-    ensures { λ r. ⌜ lateOutcome (schemeOf (now (w .entry)) (now (powers .entry))) (value (m .tweak)) (length (now (p .entry))) i (triple (now (local .entry)) (now (tags .entry)) (now (remote .entry))) (W.third (now (p .entry))) ≡ (doneNumber r, triple (now (local .entry)) (now (tags .entry)) (now (remote .exit))) ⌝ }
-{
-    let g = mode::tag_block(t, w, powers, m, p);
-    if images::fits_local(t, w, m.beta, g, p, i, local, scratch) {
-        if images::fits_tag(g, i, tags) {
-            images::write_side(t, w, m.beta, Direction::SealRemote, g, p, i, remote);
-            return Done::Done;
-        }
-    }
-    Done::Refused(Refusal::StageOrder)
-}
-
-// Writes the three places of sector i as p seals.
-fn write_all(
-    t: &Table,
-    w: &[u32],
-    powers: &[u64; 18],
-    m: Context,
-    p: &[u8],
-    i: usize,
-    local: &mut [u8],
-    tags: &mut [u8],
-    remote: &mut [u8],
-)
-    requires { ⌜ Ready (now t) (now w) (now powers) m × Within (length (now p)) i (length (now local)) (length (now tags)) (length (now remote)) ⌝ }
-    ensures { λ _. ⌜ triple (now (local .exit)) (now (tags .exit)) (now (remote .exit)) ≡ sealInto (schemeOf (now (w .entry)) (now (powers .entry))) (value (m .tweak)) (length (now (p .entry))) i (now (p .entry)) allPlaces (triple (now (local .entry)) (now (tags .entry)) (now (remote .entry))) ⌝ }
-{
-    let g = mode::tag_block(t, w, powers, m, p);
-    images::write_side(t, w, m.beta, Direction::SealLocal, g, p, i, local);
-    images::write_tag(g, i, tags);
-    images::write_side(t, w, m.beta, Direction::SealRemote, g, p, i, remote);
-}
-
-// Writes one place of sector i as p seals.
-fn write_place(
-    t: &Table,
-    w: &[u32],
-    powers: &[u64; 18],
-    m: Context,
-    place: Place,
-    p: &[u8],
-    i: usize,
-    local: &mut [u8],
-    tags: &mut [u8],
-    remote: &mut [u8],
-)
-    requires { ⌜ Ready (now t) (now w) (now powers) m × Within (length (now p)) i (length (now local)) (length (now tags)) (length (now remote)) ⌝ }
-    ensures { λ _. ⌜ triple (now (local .exit)) (now (tags .exit)) (now (remote .exit)) ≡ sealInto (schemeOf (now (w .entry)) (now (powers .entry))) (value (m .tweak)) (length (now (p .entry))) i (now (p .entry)) (one (placeNamed place)) (triple (now (local .entry)) (now (tags .entry)) (now (remote .entry))) ⌝ }
-{
-    let g = mode::tag_block(t, w, powers, m, p);
-    match place {
-        Place::Local => images::write_side(t, w, m.beta, Direction::SealLocal, g, p, i, local),
-        Place::Tag => images::write_tag(g, i, tags),
-        Place::Remote => images::write_side(t, w, m.beta, Direction::SealRemote, g, p, i, remote),
-    }
-}
-
-// The mend with a prepared key: the doubtful place as the one plaintext seals.
-fn mend_in(
-    t: &Table,
-    w: &[u32],
-    powers: &[u64; 18],
-    m: Context,
-    s: usize,
-    i: usize,
-    local: &mut [u8],
-    tags: &mut [u8],
-    remote: &mut [u8],
-    plain: &mut [u8],
-    sum: &mut [u8],
-    scratch: &mut [u8],
-) -> Judged
-    requires { ⌜ Ready (now t) (now w) (now powers) m × Within s i (length (now local)) (length (now tags)) (length (now remote)) × (length (now plain) ≡ s) × (length (now sum) ≡ s) × (length (now scratch) ≡ s) ⌝ }
-    ensures { λ r. ⌜ lateOutcome (schemeOf (now (w .entry)) (now (powers .entry))) (value (m .tweak)) s i (triple (now (local .entry)) (now (tags .entry)) (now (remote .entry))) W.mend ≡ (judgedNumber r, triple (now (local .exit)) (now (tags .exit)) (now (remote .exit))) ⌝ }
-{
-    let judged = images::judge_part(
-        t,
-        w,
-        powers,
-        m,
-        s,
-        i,
-        &local[..],
-        &tags[..],
-        &remote[..],
-        plain,
-        sum,
-        scratch,
-    );
-    match judged {
-        Judged::Whole => Judged::Whole,
-        Judged::Doubtful(place) => {
-            write_place(t, w, powers, m, place, &plain[..], i, local, tags, remote);
-            Judged::Doubtful(place)
-        }
-        Judged::Refused(f) => Judged::Refused(f),
-    }
-}
+ghost use Rattle.stages.specs.Inner.{allPlaces, sealInto, lateOutcome};
 
 fn read_checked(
     key: &[u8],
@@ -217,17 +29,16 @@ fn read_checked(
     ensures { λ r. ⌜ verdictOutcome (judge (mirror (keyFrom (now (key .entry)))) i (placesOf s i (now (local .entry)) (now (tags .entry)) (now (remote .entry)))) (now (out .entry)) ≡ (judgedNumber r, now (out .exit)) ⌝ }
 {
     let t = aes::table();
-    let k = mode::prepare(&t, key);
+    let k = mode::prepare_at(&t, key, i as u64);
     let w = k.words;
     let powers = k.powers;
-    let m = verdict::context(k.alpha, k.beta, i as u64);
     let mut sum = [0u8; 4096];
     let mut scratch = [0u8; 4096];
     images::judge_part(
         &t,
         &w,
         &powers,
-        m,
+        k.context,
         s,
         i,
         local,
@@ -251,19 +62,18 @@ fn first_checked(
     ensures { λ r. ⌜ lateOutcome (mirror (keyFrom (now (key .entry)))) i (length (now (p .entry))) i (triple (now (local .entry)) (now (tags .entry)) (now (remote .entry))) (W.first (now (p .entry))) ≡ (doneNumber r, triple (now (local .exit)) (now (tags .entry)) (now (remote .entry))) ⌝ }
 {
     let t = aes::table();
-    let k = mode::prepare(&t, key);
+    let k = mode::prepare_at(&t, key, i as u64);
     let w = k.words;
     let powers = k.powers;
-    let m = verdict::context(k.alpha, k.beta, i as u64);
     let s = p.len();
     let mut plain = [0u8; 4096];
     let mut sum = [0u8; 4096];
     let mut scratch = [0u8; 4096];
-    first_in(
+    stages::first_in(
         &t,
         &w,
         &powers,
-        m,
+        k.context,
         p,
         i,
         local,
@@ -287,17 +97,16 @@ fn second_checked(
     ensures { λ r. ⌜ lateOutcome (mirror (keyFrom (now (key .entry)))) i (length (now (p .entry))) i (triple (now (local .entry)) (now (tags .entry)) (now (remote .entry))) (W.second (now (p .entry))) ≡ (doneNumber r, triple (now (local .entry)) (now (tags .exit)) (now (remote .entry))) ⌝ }
 {
     let t = aes::table();
-    let k = mode::prepare(&t, key);
+    let k = mode::prepare_at(&t, key, i as u64);
     let w = k.words;
     let powers = k.powers;
-    let m = verdict::context(k.alpha, k.beta, i as u64);
     let s = p.len();
     let mut scratch = [0u8; 4096];
-    second_in(
+    stages::second_in(
         &t,
         &w,
         &powers,
-        m,
+        k.context,
         p,
         i,
         local,
@@ -319,17 +128,16 @@ fn third_checked(
     ensures { λ r. ⌜ lateOutcome (mirror (keyFrom (now (key .entry)))) i (length (now (p .entry))) i (triple (now (local .entry)) (now (tags .entry)) (now (remote .entry))) (W.third (now (p .entry))) ≡ (doneNumber r, triple (now (local .entry)) (now (tags .entry)) (now (remote .exit))) ⌝ }
 {
     let t = aes::table();
-    let k = mode::prepare(&t, key);
+    let k = mode::prepare_at(&t, key, i as u64);
     let w = k.words;
     let powers = k.powers;
-    let m = verdict::context(k.alpha, k.beta, i as u64);
     let s = p.len();
     let mut scratch = [0u8; 4096];
-    third_in(
+    stages::third_in(
         &t,
         &w,
         &powers,
-        m,
+        k.context,
         p,
         i,
         local,
@@ -351,11 +159,10 @@ fn blank_checked(
     ensures { λ _. ⌜ triple (now (local .exit)) (now (tags .exit)) (now (remote .exit)) ≡ sealInto (mirror (keyFrom (now (key .entry)))) i (length (now (p .entry))) i (now (p .entry)) allPlaces (triple (now (local .entry)) (now (tags .entry)) (now (remote .entry))) ⌝ }
 {
     let t = aes::table();
-    let k = mode::prepare(&t, key);
+    let k = mode::prepare_at(&t, key, i as u64);
     let w = k.words;
     let powers = k.powers;
-    let m = verdict::context(k.alpha, k.beta, i as u64);
-    write_all(&t, &w, &powers, m, p, i, local, tags, remote);
+    stages::write_all(&t, &w, &powers, k.context, p, i, local, tags, remote);
 }
 
 fn mend_checked(
@@ -370,18 +177,17 @@ fn mend_checked(
     ensures { λ r. ⌜ lateOutcome (mirror (keyFrom (now (key .entry)))) i s i (triple (now (local .entry)) (now (tags .entry)) (now (remote .entry))) W.mend ≡ (judgedNumber r, triple (now (local .exit)) (now (tags .exit)) (now (remote .exit))) ⌝ }
 {
     let t = aes::table();
-    let k = mode::prepare(&t, key);
+    let k = mode::prepare_at(&t, key, i as u64);
     let w = k.words;
     let powers = k.powers;
-    let m = verdict::context(k.alpha, k.beta, i as u64);
     let mut plain = [0u8; 4096];
     let mut sum = [0u8; 4096];
     let mut scratch = [0u8; 4096];
-    mend_in(
+    stages::mend_in(
         &t,
         &w,
         &powers,
-        m,
+        k.context,
         s,
         i,
         local,

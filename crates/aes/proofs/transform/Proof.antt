@@ -7,8 +7,8 @@ use borrow.Author.Needs.{needs}
 use Rattle.aes.proofs.transform.Statement.{statement}
 use Rattle.aes.proofs.transform.Tie as tie
 
-rem-m : tie.Need-rem-m
-rem-m c = search needs
+rem-r : tie.Need-rem-r
+rem-r c = search needs
 
 rot-word-requires : tie.Need-rot-word-requires
 rot-word-requires c κs = search needs
@@ -48,7 +48,7 @@ pub transform-spec : {M : Type 1} → statement M
 transform-spec =
     tie.close
     (tie.spec
-    rem-m
+    rem-r
     rot-word-requires
     sub-word-requires
     div-rcon

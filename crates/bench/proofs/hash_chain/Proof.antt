@@ -15,16 +15,16 @@ use Rattle.bench.proofs.hash_chain.Statement.{statement}
 use Rattle.bench.proofs.hash_chain.Tie as tie
 
 abbrev Inv-loop : tie.InvT-loop
-Inv-loop p x n m last acc₀ k₀ acc k = iterate k (hashed (keyOf p) x) (value acc) ≡ iterate k₀ (hashed (keyOf p) x) (value acc₀)
+Inv-loop p x n at last acc₀ k₀ acc k = iterate k (hashed (keyOf p) x) (value acc) ≡ iterate k₀ (hashed (keyOf p) x) (value acc₀)
 
 abbrev μ-loop : tie.MeasureT-loop
-μ-loop p x n m last acc₀ k₀ acc k = k
+μ-loop p x n at last acc₀ k₀ acc k = k
 
-sub-m : tie.Need-sub-m Inv-loop μ-loop
-sub-m c = search needs
+sub-at : tie.Need-sub-at Inv-loop μ-loop
+sub-at c = search needs
 
-mul-m : tie.Need-mul-m Inv-loop μ-loop
-mul-m c = search needs
+mul-at : tie.Need-mul-at Inv-loop μ-loop
+mul-at c = search needs
 
 load-requires : tie.Need-load-requires Inv-loop μ-loop
 load-requires c κs = search needs
@@ -83,8 +83,8 @@ hash-chain-spec =
     (tie.spec
     Inv-loop
     μ-loop
-    sub-m
-    mul-m
+    sub-at
+    mul-at
     load-requires
     loop-holds
     xor-requires

@@ -4,7 +4,7 @@ use Prim.Native.Nat.{ℕ}
 use Rattle.answers.specs.Answers.{doneOption}
 use Rattle.answers.specs.Rules.{firstOf}
 use Rattle.answers.proofs.Rules.{check-passed, check-refused}
-use Rattle.frame.specs.Frame.{together, kindRules, sectorRules}
+use Rattle.frame.specs.Frame.{together, kindRules, halvesRules}
 use Rattle.frame.proofs.Refusals.{beside-fits, together-is}
 use borrow.Author.Needs.{needs}
 use Rattle.frame.proofs.check_frame.Statement.{statement}
@@ -31,14 +31,14 @@ enum-known-checked c = search needs
 returns : tie.Need-returns
 returns c =
     let f = c .before .before .before .before .before .before .args .frame .now in
-    check-passed (sectorRules (together f)) (kindRules f) (c .before .before .before .before .check-kind .ensures) (c .before .before .enum-told .given .1)
-    ∙ ap (λ (n : ℕ). firstOf (sectorRules n)) (together-is f (c .before .beside .result) (c .before .beside .ensures))
+    check-passed (halvesRules (together f)) (kindRules f) (c .before .before .before .before .check-kind .ensures) (c .before .before .enum-told .given .1)
+    ∙ ap (λ (n : ℕ). firstOf (halvesRules n)) (together-is f (c .before .beside .result) (c .before .beside .ensures))
     ∙ c .check-sectors .ensures
 
 returns-2 : tie.Need-returns-2
 returns-2 c =
     let f = c .before .before .before .before .before .args .frame .now in
-    check-refused (sectorRules (together f)) (kindRules f) (c .before .before .before .check-kind .ensures) (c .before .checked .given .1)
+    check-refused (halvesRules (together f)) (kindRules f) (c .before .before .before .check-kind .ensures) (c .before .checked .given .1)
 
 pub check-frame-spec : {M : Type 1} → statement M
 check-frame-spec =

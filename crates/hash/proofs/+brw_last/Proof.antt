@@ -67,11 +67,11 @@ module _ (size : ℕ) where
   sub-n : lts.Need-sub-n calls here reads.Post
   sub-n c = search needs
 
-  sub-m : lts.Need-sub-m calls here reads.Post
-  sub-m c = search needs
+  sub-at : lts.Need-sub-at calls here reads.Post
+  sub-at c = search needs
 
-  mul-m : lts.Need-mul-m calls here reads.Post
-  mul-m c = search needs
+  mul-at : lts.Need-mul-at calls here reads.Post
+  mul-at c = search needs
 
   slice-aggregate-brw-last : lts.Need-slice-aggregate-brw-last calls here reads.Post
   slice-aggregate-brw-last c = simp length-take (omega arith)
@@ -161,8 +161,8 @@ pub +brw-last-spec : {M : Type 1} → statement M
     (returns size)
     (largest-power-requires size)
     (sub-n size)
-    (sub-m size)
-    (mul-m size)
+    (sub-at size)
+    (mul-at size)
     (slice-aggregate-brw-last size)
     (load-requires size)
     (brw-last-requires size)

@@ -48,11 +48,12 @@ returns c =
     let size = key-size (keyFrom k) (start .pre .1) in
     record {
       round-keys = round-keys-are k size _ refl (c .before .before .before .before .before .before .before .expand .ensures);
-      rounds = search needs;
       hash-key = hash-key-is k size (c .before .before .before .before .powers .ensures .0) (c .before .before .before .before .before .load .ensures);
-      powers = c .before .before .before .before .powers .ensures .1;
-      alpha = c .before .before .encrypt .ensures;
-      beta = c .encrypt2 .ensures;
+      ready = record {
+        pads = record { table = start .pre .0; rounds = search needs; beta = c .encrypt2 .ensures };
+        powers = c .before .before .before .before .powers .ensures .1;
+        alpha = c .before .before .encrypt .ensures;
+      };
     }
 
 pub prepare-spec : {M : Type 1} → statement M

@@ -34,7 +34,7 @@ returns c =
     let g : ℕ = value (a .tag) in
     let plain : Plain (length p) p = record { long = refl; bytes = bytes-all p (λ i h. c .before .before .before .before .before .before .before .before .before .before .before .shared-slice-known2 .given i .fits) } in
     let r = c .before .before .before .before .before .before .before .transform .ensures in
-    (c .before .before .xor-bytes .ensures ∙ ap (λ (x : List ℕ). xorBytes x p) r ∙ sides-other E (cipher-lt (a .w .now)) (length p) (c .before .before .before .before .before .before .before .before .before .before .before .before .before .pre .3) g p plain, r)
+    (c .before .before .xor-bytes .ensures ∙ ap (λ (x : List ℕ). xorBytes x p) r ∙ sides-other E (cipher-lt (a .w .now)) (length p) (c .before .before .before .before .before .before .before .before .before .before .before .before .before .pre .1) g p plain, r)
 
 pub seal-sides-spec : {M : Type 1} → statement M
 seal-sides-spec =

@@ -28,7 +28,7 @@ returns : tie.Need-returns
 unfolding value elementAt
 returns c =
     let a = c .before .before .before .before .before .before .before .before .args in
-    tag-is (a .w .now) (keyOf (a .powers .now)) (value (a .m .tweak)) (a .p .now) (c .encrypt .ensures) (c .before .xor .ensures) (c .before .before .mul .ensures) refl (c .before .before .before .brw-last .ensures) (c .before .before .before .before .before .before .before .before .pre .0 .alpha)
+    tag-is (a .w .now) (keyOf (a .powers .now)) (value (a .ctx .tweak)) (a .p .now) (c .encrypt .ensures) (c .before .xor .ensures) (c .before .before .mul .ensures) refl (c .before .before .before .brw-last .ensures) (c .before .before .before .before .before .before .before .before .pre .0 .alpha)
 
 pub tag-block-spec : {M : Type 1} → statement M
 tag-block-spec =

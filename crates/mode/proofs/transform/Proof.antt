@@ -57,7 +57,7 @@ loop-again c =
     let g = value (a .tag) in
     let f : ℕ → ℕ → ℕ = λ n v. transformed (a .how) (pad (cipherNumber w) g n) v in
     let mask = mask-next (value (a .beta)) (l .j) (l .inv .1) (c .before .before .before .before .before .before .before .before .double .ensures) in
-    let key = pad-is w g (l .j + 1) (c .before .before .before .before .before .before .encrypt .ensures) (c .before .before .before .before .before .before .before .xor .ensures) mask (c .before .before .before .before .before .before .before .before .before .before .before .before .before .before .pre .2) in
+    let key = pad-is w g (l .j + 1) (c .before .before .before .before .before .before .encrypt .ensures) (c .before .before .before .before .before .before .before .xor .ensures) mask (c .before .before .before .before .before .before .before .before .before .before .before .before .before .before .pre .0 .beta) in
     let v = c .before .before .before .before .transform-block .ensures ∙ ap₂ (transformed (a .how)) key (c .before .before .before .before .before .load .ensures) in (
       omega (arith, c .before .before .before .before .before .before .before .before),
       mask,

@@ -1,5 +1,6 @@
 use Rattle.block.specs.Value.{value}
 use Rattle.block.proofs.Lists.{bytes-all}
+use Rattle.verdict.specs.Judging.{sideNamed}
 use Rattle.verdict.proofs.Opened.{Side-known}
 use Rattle.sector.proofs.Opening.{none-fits, gives-plaintext, gives-opposite}
 use borrow.Author.Needs.{needs}
@@ -47,7 +48,7 @@ returns : tie.Need-returns
 returns c =
     let o = c .before .before .before .before .before .before .before .before in
     let a = start o .args in
-    gives-plaintext (a .w .now) (a .powers .now) (value (a .m .tweak)) (a .side) (a .x .now) (a .tag .now) (known o) (a .out .now) (o .before .before .opens .ensures) (c .before .before .before .before .before .enum-told .given .1) (c .before .before .before .before .before .before .before .if1 .taken) (c .before .before .copy .ensures)
+    gives-plaintext (a .w .now) (a .powers .now) (value (a .ctx .tweak)) (sideNamed (a .side)) (a .x .now) (a .tag .now) (known o) (a .out .now) (o .before .before .opens .ensures) (c .before .before .before .before .before .enum-told .given .1) (c .before .before .before .before .before .before .before .if1 .taken) (c .before .before .copy .ensures)
 
 enum-told-2 : tie.Need-enum-told-2
 enum-told-2 c = search needs
@@ -71,7 +72,7 @@ returns-2 : tie.Need-returns-2
 returns-2 c =
     let o = c .before .before .before .before .before .before .before .before .before .before in
     let a = start o .args in
-    gives-opposite (a .w .now) (a .powers .now) (value (a .m .tweak)) (a .side) (a .x .now) (a .tag .now) (known o) (a .out .now) (o .before .before .opens .ensures) (c .before .before .before .before .before .before .before .enum-told2 .given .1) (c .before .before .before .before .before .before .before .before .before .if1 .taken) (c .before .before .before .before .before .before .load .ensures) (c .before .before .before .before .before .sealing-opposite .ensures) (c .before .before .transform .ensures)
+    gives-opposite (a .w .now) (a .powers .now) (value (a .ctx .tweak)) (sideNamed (a .side)) (a .x .now) (a .tag .now) (known o) (a .out .now) (o .before .before .opens .ensures) (c .before .before .before .before .before .before .before .enum-told2 .given .1) (c .before .before .before .before .before .before .before .before .before .if1 .taken) (c .before .before .before .before .before .before .load .ensures) (c .before .before .before .before .before .sealing-opposite .ensures) (c .before .before .transform .ensures)
 
 same-length-5 : tie.Need-same-length-5
 same-length-5 c = search needs
@@ -80,7 +81,7 @@ returns-3 : tie.Need-returns-3
 returns-3 c =
     let o = c .before in
     let a = start o .args in
-    none-fits (a .w .now) (a .powers .now) (value (a .m .tweak)) (a .side) (a .x .now) (a .tag .now) (known o) (a .out .now) (o .before .before .opens .ensures) (a .wanted) (c .if1 .left)
+    none-fits (a .w .now) (a .powers .now) (value (a .ctx .tweak)) (sideNamed (a .side)) (a .x .now) (a .tag .now) (known o) (a .out .now) (o .before .before .opens .ensures) (a .wanted) (c .if1 .left)
 
 pub open-in-spec : {M : Type 1} → statement M
 open-in-spec =

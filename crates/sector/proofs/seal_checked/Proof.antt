@@ -1,5 +1,4 @@
 use mathlib.Core.Path.{_∙_}
-use Rattle.verdict.proofs.Prepared.{ready-of}
 use Rattle.sector.proofs.Prepared.{scheme-sealed}
 use borrow.Author.Needs.{needs}
 use Rattle.sector.proofs.seal_checked.Statement.{statement}
@@ -8,22 +7,17 @@ use Rattle.sector.proofs.seal_checked.Tie as tie
 table-requires : tie.Need-table-requires
 table-requires c κs = search needs
 
-prepare-requires : tie.Need-prepare-requires
-prepare-requires c κs = search needs
-
-context-requires : tie.Need-context-requires
-context-requires c κs = search needs
+prepare-at-requires : tie.Need-prepare-at-requires
+prepare-at-requires c κs = search needs
 
 slice-aggregate-seal-in : tie.Need-slice-aggregate-seal-in
 slice-aggregate-seal-in c = search needs
 
 seal-in-requires : tie.Need-seal-in-requires
 seal-in-requires c κs =
-    let s = c .before .before .before .before .before .before .before .before .before .before .before .before .before .before .before .before .before in
-    let table = c .before .before .before .before .before .before .before .before .before .before .before .table .ensures in
-    let prepared = c .before .before .before .before .before .before .before .before .before .prepare .ensures in
-    let context = c .before .before .before .before .before .before .context .ensures in
-    (ready-of (s .args .key .now) _ prepared _ (s .args .address) context table, s .pre .1)
+    let s = c .before .before .before .before .before .before .before .before .before .before .before .before .before .before .before .before in
+    let prepared = c .before .before .before .before .before .before .before .before .prepare-at .ensures in
+    (prepared .0 .ready, s .pre .1)
 
 same-length : tie.Need-same-length
 same-length c = search needs
@@ -36,18 +30,16 @@ same-length-3 c = search needs
 
 returns : tie.Need-returns
 returns c =
-    let a = c .before .before .before .before .before .before .before .before .before .before .before .before .before .before .before .before .before .before .before .before .before .before .before .before .args in
-    let prepared = c .before .before .before .before .before .before .before .before .before .before .before .before .before .before .before .before .prepare .ensures in
-    let context = c .before .before .before .before .before .before .before .before .before .before .before .before .before .context .ensures in
-    c .before .before .before .before .before .before .seal-in .ensures ∙ scheme-sealed (a .key .now) _ prepared _ (a .address) context (a .p .now)
+    let a = c .before .before .before .before .before .before .before .before .before .before .before .before .before .before .before .before .before .before .before .before .before .before .before .args in
+    let prepared = c .before .before .before .before .before .before .before .before .before .before .before .before .before .before .before .prepare-at .ensures in
+    c .before .before .before .before .before .before .seal-in .ensures ∙ scheme-sealed _ (a .address) prepared (a .p .now)
 
 pub seal-checked-spec : {M : Type 1} → statement M
 seal-checked-spec =
     tie.close
     (tie.spec
     table-requires
-    prepare-requires
-    context-requires
+    prepare-at-requires
     slice-aggregate-seal-in
     seal-in-requires
     same-length

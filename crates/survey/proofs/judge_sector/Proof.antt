@@ -1,13 +1,14 @@
-use Rattle.survey.proofs.Surveying.{ready-other, verdict-by}
+use Rattle.survey.proofs.Surveying.{verdict-by}
+use Rattle.mode.proofs.Preparing.{ready-context}
 use borrow.Author.Needs.{needs}
 use Rattle.survey.proofs.judge_sector.Statement.{statement}
 use Rattle.survey.proofs.judge_sector.Tie as tie
 
-context-requires : tie.Need-context-requires
-context-requires c κs = search needs
+context-at-requires : tie.Need-context-at-requires
+context-at-requires c κs = search needs
 
 judge-part-requires : tie.Need-judge-part-requires
-judge-part-requires c κs = (search (needs, ready-other), search needs, search needs, search needs, search needs)
+judge-part-requires c κs = (search (needs, ready-context), search needs, search needs, search needs, search needs)
 
 same-length : tie.Need-same-length
 same-length c = search needs
@@ -24,4 +25,4 @@ returns c = search (needs, verdict-by)
 pub judge-sector-spec : {M : Type 1} → statement M
 judge-sector-spec =
     tie.close
-    (tie.spec context-requires judge-part-requires same-length same-length-2 same-length-3 returns)
+    (tie.spec context-at-requires judge-part-requires same-length same-length-2 same-length-3 returns)

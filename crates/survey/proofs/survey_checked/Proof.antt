@@ -1,4 +1,4 @@
-use Rattle.survey.proofs.Surveying.{ready-at, survey-keyed}
+use Rattle.survey.proofs.Surveying.{survey-keyed}
 use borrow.Author.Needs.{needs}
 use Rattle.survey.proofs.survey_checked.Statement.{statement}
 use Rattle.survey.proofs.survey_checked.Tie as tie
@@ -9,14 +9,11 @@ table-requires c κs = search needs
 prepare-requires : tie.Need-prepare-requires
 prepare-requires c κs = search needs
 
-context-requires : tie.Need-context-requires
-context-requires c κs = search needs
-
 slice-aggregate-survey-prepared : tie.Need-slice-aggregate-survey-prepared
 slice-aggregate-survey-prepared c = search needs
 
 survey-prepared-requires : tie.Need-survey-prepared-requires
-survey-prepared-requires c κs = (search (needs, ready-at), search needs, search needs)
+survey-prepared-requires c κs = search needs
 
 same-length : tie.Need-same-length
 same-length c = search needs
@@ -30,7 +27,6 @@ survey-checked-spec =
     (tie.spec
     table-requires
     prepare-requires
-    context-requires
     slice-aggregate-survey-prepared
     survey-prepared-requires
     same-length

@@ -2,7 +2,7 @@ use mathlib.Core.Path.{_≡_}
 use Prim.Native.Nat.{_-_}
 use native.Mathlib.Omega.{arith}
 use lib.ListN.{length}
-use Rattle.verdict.specs.Judging.{schemeOf}
+use Rattle.mode.specs.Prepared.{schemeOf}
 use Rattle.survey.specs.Inner.{verdictBy}
 use Rattle.images.proofs.Rooms.{within-room}
 use Rattle.survey.proofs.Surveying.{Loop, loop-none, loop-next, loop-all}
@@ -11,11 +11,11 @@ use Rattle.survey.proofs.survey_in.Statement.{statement}
 use Rattle.survey.proofs.survey_in.Tie as tie
 
 abbrev Inv-loop : tie.InvT-loop
-Inv-loop t w powers m s n local tags remote list₀ plain₀ sum₀ work₀ counts₀ i₀ list plain sum work counts i =
-    Loop (verdictBy (schemeOf w powers) s local tags remote) n list₀ i counts list × (length plain ≡ s) × (length sum ≡ s) × (length work ≡ s)
+Inv-loop t w powers alpha beta s n local tags remote list₀ plain₀ sum₀ scratch₀ counts₀ i₀ list plain sum scratch counts i =
+    Loop (verdictBy (schemeOf w powers) s local tags remote) n list₀ i counts list × (length plain ≡ s) × (length sum ≡ s) × (length scratch ≡ s)
 
 abbrev μ-loop : tie.MeasureT-loop
-μ-loop t w powers m s n local tags remote list₀ plain₀ sum₀ work₀ counts₀ i₀ list plain sum work counts i =
+μ-loop t w powers alpha beta s n local tags remote list₀ plain₀ sum₀ scratch₀ counts₀ i₀ list plain sum scratch counts i =
     n - i
 
 loop-holds : tie.Need-loop-holds Inv-loop μ-loop

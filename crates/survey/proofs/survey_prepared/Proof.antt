@@ -16,8 +16,8 @@ array-borrow-prefix-sum c = search needs
 slice-aggregate-survey-in-2 : tie.Need-slice-aggregate-survey-in-2
 slice-aggregate-survey-in-2 c = simp length-take (omega arith)
 
-array-borrow-prefix-work : tie.Need-array-borrow-prefix-work
-array-borrow-prefix-work c = search needs
+array-borrow-prefix-scratch : tie.Need-array-borrow-prefix-scratch
+array-borrow-prefix-scratch c = search needs
 
 slice-aggregate-survey-in-3 : tie.Need-slice-aggregate-survey-in-3
 slice-aggregate-survey-in-3 c = simp length-take (omega arith)
@@ -39,7 +39,7 @@ survey-prepared-spec =
     slice-aggregate-survey-in
     array-borrow-prefix-sum
     slice-aggregate-survey-in-2
-    array-borrow-prefix-work
+    array-borrow-prefix-scratch
     slice-aggregate-survey-in-3
     survey-in-requires
     same-length

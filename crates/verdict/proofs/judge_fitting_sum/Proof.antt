@@ -34,7 +34,7 @@ returns : tie.Need-returns
 returns c =
     let o = c .before in
     let a = start o .args in
-    clash-left (a .w .now) (a .powers .now) (a .m) (a .local .now) (a .tag .now) (a .remote .now) (known o) (a .out .now) (a .sum .now) (start o .pre .2) (o .before .before .opens .ensures) (c .if1 .taken)
+    clash-left (a .w .now) (a .powers .now) (a .ctx) (a .local .now) (a .tag .now) (a .remote .now) (known o) (a .out .now) (a .sum .now) (start o .pre .2) (o .before .before .opens .ensures) (c .if1 .taken)
 
 opens-requires-2 : tie.Need-opens-requires-2
 opens-requires-2 c κs = search needs
@@ -46,7 +46,7 @@ returns-2 : tie.Need-returns-2
 returns-2 c =
     let o = c .before .before .before .before .before .before in
     let a = start o .args in
-    clash-right (a .w .now) (a .powers .now) (a .m) (a .local .now) (a .tag .now) (a .remote .now) (known o) (a .out .now) (a .sum .now) (start o .pre .2) (c .before .before .before .opens2 .ensures) (c .if2 .taken)
+    clash-right (a .w .now) (a .powers .now) (a .ctx) (a .local .now) (a .tag .now) (a .remote .now) (known o) (a .out .now) (a .sum .now) (start o .pre .2) (c .before .before .before .opens2 .ensures) (c .if2 .taken)
 
 copy-requires : tie.Need-copy-requires
 copy-requires c κs =
@@ -64,7 +64,7 @@ returns-3 : tie.Need-returns-3
 returns-3 c =
     let o = c .before .before .before .before .before .before .before .before .before .before in
     let a = start o .args in
-    sum-only (a .w .now) (a .powers .now) (a .m) (a .local .now) (a .tag .now) (a .remote .now) (known o) (a .out .now) (a .sum .now) (start o .pre .2) (o .before .before .opens .ensures) (c .before .before .before .before .before .before .before .opens2 .ensures) (c .before .before .before .before .before .before .before .before .before .if1 .left) (c .before .before .before .before .if2 .left) (c .before .before .copy .ensures)
+    sum-only (a .w .now) (a .powers .now) (a .ctx) (a .local .now) (a .tag .now) (a .remote .now) (known o) (a .out .now) (a .sum .now) (start o .pre .2) (o .before .before .opens .ensures) (c .before .before .before .before .before .before .before .opens2 .ensures) (c .before .before .before .before .before .before .before .before .before .if1 .left) (c .before .before .before .before .if2 .left) (c .before .before .copy .ensures)
 
 pub judge-fitting-sum-spec : {M : Type 1} → statement M
 judge-fitting-sum-spec =

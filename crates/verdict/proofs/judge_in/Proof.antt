@@ -68,7 +68,7 @@ returns c =
     let tagged = o .before .before .before .before .before .before .before .tag-block .ensures in
     let side = o .before .before .before .before .transform .ensures in
     let compared = o .same .ensures in
-    sum-whole (a .w .now) (a .powers .now) (a .m) (a .local .now) (a .tag .now) (a .remote .now) (known o) xored tagged side compared (c .before .before .before .before .before .before .before .load .ensures) (c .before .before .before .before .before .before .equal .ensures) (c .before .before .before .before .before .before .before .before .if1 .taken) (c .before .before .before .before .before .if2 .taken) (a .out .now) (c .before .before .copy .ensures)
+    sum-whole (a .w .now) (a .powers .now) (a .ctx) (a .local .now) (a .tag .now) (a .remote .now) (known o) xored tagged side compared (c .before .before .before .before .before .before .before .load .ensures) (c .before .before .before .before .before .before .equal .ensures) (c .before .before .before .before .before .before .before .before .if1 .taken) (c .before .before .before .before .before .if2 .taken) (a .out .now) (c .before .before .copy .ensures)
 
 judge-fitting-sum-requires : tie.Need-judge-fitting-sum-requires
 judge-fitting-sum-requires c κs =
@@ -79,7 +79,7 @@ judge-fitting-sum-requires c κs =
     let side = o .before .before .before .before .transform .ensures in
     let compared = o .same .ensures in
     let pre = start o .pre in
-    (pre .0, omega arith, sum-fits (a .w .now) (a .powers .now) (a .m) (a .local .now) (a .tag .now) (a .remote .now) (known o) xored tagged side compared (c .before .before .before .before .before .load .ensures) (c .before .before .before .before .equal .ensures) (c .before .before .before .before .before .before .if1 .taken) (c .before .before .before .if2 .left))
+    (pre .0, omega arith, sum-fits (a .w .now) (a .powers .now) (a .ctx) (a .local .now) (a .tag .now) (a .remote .now) (known o) xored tagged side compared (c .before .before .before .before .before .load .ensures) (c .before .before .before .before .equal .ensures) (c .before .before .before .before .before .before .if1 .taken) (c .before .before .before .if2 .left))
 
 same-length-4 : tie.Need-same-length-4
 same-length-4 c = search needs
@@ -102,7 +102,7 @@ judge-failing-sum-requires c κs =
     let side = o .before .before .before .before .transform .ensures in
     let compared = o .same .ensures in
     let pre = start o .pre in
-    (pre .0, omega arith, omega arith, sum-fails (a .w .now) (a .powers .now) (a .m) (a .local .now) (a .tag .now) (a .remote .now) (known o) xored tagged side compared (c .before .before .before .if1 .left))
+    (pre .0, omega arith, omega arith, sum-fails (a .w .now) (a .powers .now) (a .ctx) (a .local .now) (a .tag .now) (a .remote .now) (known o) xored tagged side compared (c .before .before .before .if1 .left))
 
 same-length-7 : tie.Need-same-length-7
 same-length-7 c = search needs

@@ -1,6 +1,6 @@
 use Rattle.block.specs.Value.{value}
 use Rattle.block.proofs.Lists.{bytes-all}
-use Rattle.verdict.specs.Verdict.{sideOf}
+use Rattle.verdict.specs.Judging.{sideNamed}
 use Rattle.verdict.proofs.Sides.{side-opened, tag-compared}
 use borrow.Author.Needs.{needs}
 use Rattle.verdict.proofs.opens.Statement.{statement}
@@ -31,7 +31,7 @@ returns c =
     let size = s .pre .3 in
     let bytes = bytes-all (a .tag .now) (λ i h. c .before .before .before .before .before .before .before .before .before .before .shared-slice-known3 .given i .fits) in
     let k = c .before .before .before .before .before .before .before .before .load .ensures in
-    (side-opened (a .w .now) (a .powers .now) (value (a .m .tweak)) (a .tag .now) size bytes (sideOf (a .side)) (a .x .now) _ k (c .before .before .before .before .before .before .before .opening .ensures) (c .before .before .before .before .before .transform .ensures), tag-compared (a .w .now) (a .powers .now) (value (a .m .tweak)) (a .tag .now) size bytes _ _ _ (c .before .tag-block .ensures) k (c .equal .ensures))
+    (side-opened (a .w .now) (a .powers .now) (value (a .ctx .tweak)) (a .tag .now) size bytes (sideNamed (a .side)) (a .x .now) _ k (c .before .before .before .before .before .before .before .opening .ensures) (c .before .before .before .before .before .transform .ensures), tag-compared (a .w .now) (a .powers .now) (value (a .ctx .tweak)) (a .tag .now) size bytes _ _ _ (c .before .tag-block .ensures) k (c .equal .ensures))
 
 pub opens-spec : {M : Type 1} → statement M
 opens-spec =

@@ -1,4 +1,4 @@
-use Rattle.volume.proofs.Keyed.{seals-keyed, prepared-ready}
+use Rattle.volume.proofs.Keyed.{seals-keyed}
 use borrow.Author.Needs.{needs}
 use Rattle.volume.proofs.blank_checked.Statement.{statement}
 use Rattle.volume.proofs.blank_checked.Tie as tie
@@ -6,19 +6,14 @@ use Rattle.volume.proofs.blank_checked.Tie as tie
 table-requires : tie.Need-table-requires
 table-requires c κs = search needs
 
-prepare-requires : tie.Need-prepare-requires
-prepare-requires c κs = search needs
-
-context-requires : tie.Need-context-requires
-context-requires c κs = search needs
+prepare-at-requires : tie.Need-prepare-at-requires
+prepare-at-requires c κs = search needs
 
 slice-aggregate-write-all : tie.Need-slice-aggregate-write-all
 slice-aggregate-write-all c = search needs
 
 write-all-requires : tie.Need-write-all-requires
-write-all-requires c κs =
-    let p = c .before .before .before .before .before .before .before .before .before .before .before .before .before .before .before .before .before .pre in
-    (search prepared-ready, p .1)
+write-all-requires c κs = search needs
 
 same-length : tie.Need-same-length
 same-length c = search needs
@@ -37,8 +32,7 @@ blank-checked-spec =
     tie.close
     (tie.spec
     table-requires
-    prepare-requires
-    context-requires
+    prepare-at-requires
     slice-aggregate-write-all
     write-all-requires
     same-length

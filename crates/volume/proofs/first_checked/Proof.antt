@@ -1,5 +1,5 @@
-use Rattle.volume.proofs.Keyed.{late-keyed, prepared-ready}
-use Rattle.volume.proofs.Public.{prefix-size}
+use Rattle.volume.proofs.Keyed.{late-keyed}
+use Rattle.volume.proofs.Public.{prefix-size, scratch-sized}
 use borrow.Author.Needs.{needs}
 use Rattle.volume.proofs.first_checked.Statement.{statement}
 use Rattle.volume.proofs.first_checked.Tie as tie
@@ -7,37 +7,32 @@ use Rattle.volume.proofs.first_checked.Tie as tie
 table-requires : tie.Need-table-requires
 table-requires c κs = search needs
 
-prepare-requires : tie.Need-prepare-requires
-prepare-requires c κs = search needs
-
-context-requires : tie.Need-context-requires
-context-requires c κs = search needs
+prepare-at-requires : tie.Need-prepare-at-requires
+prepare-at-requires c κs = search needs
 
 slice-aggregate-first-in : tie.Need-slice-aggregate-first-in
 slice-aggregate-first-in c = search needs
 
 array-borrow-prefix-plain : tie.Need-array-borrow-prefix-plain
-array-borrow-prefix-plain c = search (needs, prefix-size, c .before .before .before .before .before .before .before .before .before .before .before .before .before .before .before .pre)
+array-borrow-prefix-plain c = search needs
 
 slice-aggregate-first-in-2 : tie.Need-slice-aggregate-first-in-2
-slice-aggregate-first-in-2 c = search (needs, prefix-size, c .before .before .before .before .before .before .before .before .before .before .before .before .before .before .before .before .pre)
+slice-aggregate-first-in-2 c = search (needs, prefix-size)
 
 array-borrow-prefix-sum : tie.Need-array-borrow-prefix-sum
-array-borrow-prefix-sum c = search (needs, prefix-size, c .before .before .before .before .before .before .before .before .before .before .before .before .before .before .before .before .pre)
+array-borrow-prefix-sum c = search needs
 
 slice-aggregate-first-in-3 : tie.Need-slice-aggregate-first-in-3
-slice-aggregate-first-in-3 c = search (needs, prefix-size, c .before .before .before .before .before .before .before .before .before .before .before .before .before .before .before .before .before .pre)
+slice-aggregate-first-in-3 c = search (needs, prefix-size)
 
 array-borrow-prefix-scratch : tie.Need-array-borrow-prefix-scratch
-array-borrow-prefix-scratch c = search (needs, prefix-size, c .before .before .before .before .before .before .before .before .before .before .before .before .before .before .before .before .before .pre)
+array-borrow-prefix-scratch c = search needs
 
 slice-aggregate-first-in-4 : tie.Need-slice-aggregate-first-in-4
-slice-aggregate-first-in-4 c = search (needs, prefix-size, c .before .before .before .before .before .before .before .before .before .before .before .before .before .before .before .before .before .before .pre)
+slice-aggregate-first-in-4 c = search (needs, prefix-size)
 
 first-in-requires : tie.Need-first-in-requires
-first-in-requires c κs =
-    let p = c .before .before .before .before .before .before .before .before .before .before .before .before .before .before .before .before .before .before .pre in
-    (search prepared-ready, p .1, prefix-size _ _ (p .1 .most), prefix-size _ _ (p .1 .most), prefix-size _ _ (p .1 .most))
+first-in-requires c κs = search (needs, scratch-sized)
 
 same-length : tie.Need-same-length
 same-length c = search needs
@@ -50,8 +45,7 @@ first-checked-spec =
     tie.close
     (tie.spec
     table-requires
-    prepare-requires
-    context-requires
+    prepare-at-requires
     slice-aggregate-first-in
     array-borrow-prefix-plain
     slice-aggregate-first-in-2

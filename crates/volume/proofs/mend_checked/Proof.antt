@@ -1,5 +1,5 @@
-use Rattle.volume.proofs.Keyed.{late-keyed, prepared-ready}
-use Rattle.volume.proofs.Public.{prefix-size}
+use Rattle.volume.proofs.Keyed.{late-keyed}
+use Rattle.volume.proofs.Public.{prefix-size, scratch-sized}
 use borrow.Author.Needs.{needs}
 use Rattle.volume.proofs.mend_checked.Statement.{statement}
 use Rattle.volume.proofs.mend_checked.Tie as tie
@@ -7,11 +7,8 @@ use Rattle.volume.proofs.mend_checked.Tie as tie
 table-requires : tie.Need-table-requires
 table-requires c κs = search needs
 
-prepare-requires : tie.Need-prepare-requires
-prepare-requires c κs = search needs
-
-context-requires : tie.Need-context-requires
-context-requires c κs = search needs
+prepare-at-requires : tie.Need-prepare-at-requires
+prepare-at-requires c κs = search needs
 
 slice-aggregate-mend-in : tie.Need-slice-aggregate-mend-in
 slice-aggregate-mend-in c = search needs
@@ -20,24 +17,22 @@ array-borrow-prefix-plain : tie.Need-array-borrow-prefix-plain
 array-borrow-prefix-plain c = search needs
 
 slice-aggregate-mend-in-2 : tie.Need-slice-aggregate-mend-in-2
-slice-aggregate-mend-in-2 c = search (needs, prefix-size, c .before .before .before .before .before .before .before .before .before .before .before .before .before .before .before .before .before .pre)
+slice-aggregate-mend-in-2 c = search (needs, prefix-size)
 
 array-borrow-prefix-sum : tie.Need-array-borrow-prefix-sum
-array-borrow-prefix-sum c = search (needs, prefix-size, c .before .before .before .before .before .before .before .before .before .before .before .before .before .before .before .before .before .pre)
+array-borrow-prefix-sum c = search needs
 
 slice-aggregate-mend-in-3 : tie.Need-slice-aggregate-mend-in-3
-slice-aggregate-mend-in-3 c = search (needs, prefix-size, c .before .before .before .before .before .before .before .before .before .before .before .before .before .before .before .before .before .before .pre)
+slice-aggregate-mend-in-3 c = search (needs, prefix-size)
 
 array-borrow-prefix-scratch : tie.Need-array-borrow-prefix-scratch
-array-borrow-prefix-scratch c = search (needs, prefix-size, c .before .before .before .before .before .before .before .before .before .before .before .before .before .before .before .before .before .before .pre)
+array-borrow-prefix-scratch c = search needs
 
 slice-aggregate-mend-in-4 : tie.Need-slice-aggregate-mend-in-4
-slice-aggregate-mend-in-4 c = search (needs, prefix-size, c .before .before .before .before .before .before .before .before .before .before .before .before .before .before .before .before .before .before .before .pre)
+slice-aggregate-mend-in-4 c = search (needs, prefix-size)
 
 mend-in-requires : tie.Need-mend-in-requires
-mend-in-requires c κs =
-    let p = c .before .before .before .before .before .before .before .before .before .before .before .before .before .before .before .before .before .before .before .pre in
-    (search prepared-ready, p .1, prefix-size _ _ (p .1 .most), prefix-size _ _ (p .1 .most), prefix-size _ _ (p .1 .most))
+mend-in-requires c κs = search (needs, scratch-sized)
 
 same-length : tie.Need-same-length
 same-length c = search needs
@@ -56,8 +51,7 @@ mend-checked-spec =
     tie.close
     (tie.spec
     table-requires
-    prepare-requires
-    context-requires
+    prepare-at-requires
     slice-aggregate-mend-in
     array-borrow-prefix-plain
     slice-aggregate-mend-in-2

@@ -1,4 +1,4 @@
-use Rattle.volume.proofs.Keyed.{verdict-keyed, prepared-ready}
+use Rattle.volume.proofs.Keyed.{verdict-keyed}
 use Rattle.volume.proofs.Public.{prefix-size}
 use borrow.Author.Needs.{needs}
 use Rattle.volume.proofs.read_checked.Statement.{statement}
@@ -7,31 +7,26 @@ use Rattle.volume.proofs.read_checked.Tie as tie
 table-requires : tie.Need-table-requires
 table-requires c κs = search needs
 
-prepare-requires : tie.Need-prepare-requires
-prepare-requires c κs = search needs
-
-context-requires : tie.Need-context-requires
-context-requires c κs = search needs
+prepare-at-requires : tie.Need-prepare-at-requires
+prepare-at-requires c κs = search needs
 
 slice-aggregate-judge-part : tie.Need-slice-aggregate-judge-part
 slice-aggregate-judge-part c = search needs
 
 array-borrow-prefix-sum : tie.Need-array-borrow-prefix-sum
-array-borrow-prefix-sum c = search (needs, prefix-size, c .before .before .before .before .before .before .before .before .before .before .before .before .before .before .before .pre)
+array-borrow-prefix-sum c = search needs
 
 slice-aggregate-judge-part-2 : tie.Need-slice-aggregate-judge-part-2
-slice-aggregate-judge-part-2 c = search (needs, prefix-size, c .before .before .before .before .before .before .before .before .before .before .before .before .before .before .before .before .pre)
+slice-aggregate-judge-part-2 c = search (needs, prefix-size)
 
 array-borrow-prefix-scratch : tie.Need-array-borrow-prefix-scratch
-array-borrow-prefix-scratch c = search (needs, prefix-size, c .before .before .before .before .before .before .before .before .before .before .before .before .before .before .before .before .pre)
+array-borrow-prefix-scratch c = search needs
 
 slice-aggregate-judge-part-3 : tie.Need-slice-aggregate-judge-part-3
-slice-aggregate-judge-part-3 c = search (needs, prefix-size, c .before .before .before .before .before .before .before .before .before .before .before .before .before .before .before .before .before .pre)
+slice-aggregate-judge-part-3 c = search (needs, prefix-size)
 
 judge-part-requires : tie.Need-judge-part-requires
-judge-part-requires c κs =
-    let p = c .before .before .before .before .before .before .before .before .before .before .before .before .before .before .before .before .before .pre in
-    (search prepared-ready, p .1, search (prefix-size, p), search (prefix-size, p), search (prefix-size, p))
+judge-part-requires c κs = search (needs, prefix-size)
 
 same-length : tie.Need-same-length
 same-length c = search needs
@@ -44,8 +39,7 @@ read-checked-spec =
     tie.close
     (tie.spec
     table-requires
-    prepare-requires
-    context-requires
+    prepare-at-requires
     slice-aggregate-judge-part
     array-borrow-prefix-sum
     slice-aggregate-judge-part-2

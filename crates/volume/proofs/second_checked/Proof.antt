@@ -1,4 +1,4 @@
-use Rattle.volume.proofs.Keyed.{late-keyed, prepared-ready}
+use Rattle.volume.proofs.Keyed.{late-keyed}
 use Rattle.volume.proofs.Public.{prefix-size}
 use borrow.Author.Needs.{needs}
 use Rattle.volume.proofs.second_checked.Statement.{statement}
@@ -7,25 +7,20 @@ use Rattle.volume.proofs.second_checked.Tie as tie
 table-requires : tie.Need-table-requires
 table-requires c κs = search needs
 
-prepare-requires : tie.Need-prepare-requires
-prepare-requires c κs = search needs
-
-context-requires : tie.Need-context-requires
-context-requires c κs = search needs
+prepare-at-requires : tie.Need-prepare-at-requires
+prepare-at-requires c κs = search needs
 
 slice-aggregate-second-in : tie.Need-slice-aggregate-second-in
 slice-aggregate-second-in c = search needs
 
 array-borrow-prefix-scratch : tie.Need-array-borrow-prefix-scratch
-array-borrow-prefix-scratch c = search (needs, prefix-size, c .before .before .before .before .before .before .before .before .before .before .before .before .before .before .before .pre)
+array-borrow-prefix-scratch c = search needs
 
 slice-aggregate-second-in-2 : tie.Need-slice-aggregate-second-in-2
-slice-aggregate-second-in-2 c = search (needs, prefix-size, c .before .before .before .before .before .before .before .before .before .before .before .before .before .before .before .before .pre)
+slice-aggregate-second-in-2 c = search (needs, prefix-size)
 
 second-in-requires : tie.Need-second-in-requires
-second-in-requires c κs =
-    let p = c .before .before .before .before .before .before .before .before .before .before .before .before .before .before .before .before .pre in
-    (search prepared-ready, p .1, prefix-size _ _ (p .1 .most))
+second-in-requires c κs = search (needs, prefix-size)
 
 same-length : tie.Need-same-length
 same-length c = search needs
@@ -38,8 +33,7 @@ second-checked-spec =
     tie.close
     (tie.spec
     table-requires
-    prepare-requires
-    context-requires
+    prepare-at-requires
     slice-aggregate-second-in
     array-borrow-prefix-scratch
     slice-aggregate-second-in-2

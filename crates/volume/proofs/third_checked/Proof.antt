@@ -1,4 +1,4 @@
-use Rattle.volume.proofs.Keyed.{late-keyed, prepared-ready}
+use Rattle.volume.proofs.Keyed.{late-keyed}
 use Rattle.volume.proofs.Public.{prefix-size}
 use borrow.Author.Needs.{needs}
 use Rattle.volume.proofs.third_checked.Statement.{statement}
@@ -7,25 +7,20 @@ use Rattle.volume.proofs.third_checked.Tie as tie
 table-requires : tie.Need-table-requires
 table-requires c κs = search needs
 
-prepare-requires : tie.Need-prepare-requires
-prepare-requires c κs = search needs
-
-context-requires : tie.Need-context-requires
-context-requires c κs = search needs
+prepare-at-requires : tie.Need-prepare-at-requires
+prepare-at-requires c κs = search needs
 
 slice-aggregate-third-in : tie.Need-slice-aggregate-third-in
 slice-aggregate-third-in c = search needs
 
 array-borrow-prefix-scratch : tie.Need-array-borrow-prefix-scratch
-array-borrow-prefix-scratch c = search (needs, prefix-size, c .before .before .before .before .before .before .before .before .before .before .before .before .before .before .before .pre)
+array-borrow-prefix-scratch c = search needs
 
 slice-aggregate-third-in-2 : tie.Need-slice-aggregate-third-in-2
-slice-aggregate-third-in-2 c = search (needs, prefix-size, c .before .before .before .before .before .before .before .before .before .before .before .before .before .before .before .before .pre)
+slice-aggregate-third-in-2 c = search (needs, prefix-size)
 
 third-in-requires : tie.Need-third-in-requires
-third-in-requires c κs =
-    let p = c .before .before .before .before .before .before .before .before .before .before .before .before .before .before .before .before .pre in
-    (search prepared-ready, p .1, prefix-size _ _ (p .1 .most))
+third-in-requires c κs = search (needs, prefix-size)
 
 same-length : tie.Need-same-length
 same-length c = search needs
@@ -38,8 +33,7 @@ third-checked-spec =
     tie.close
     (tie.spec
     table-requires
-    prepare-requires
-    context-requires
+    prepare-at-requires
     slice-aggregate-third-in
     array-borrow-prefix-scratch
     slice-aggregate-third-in-2

@@ -1,0 +1,13 @@
+use mathlib.Core.Path.{refl}
+use native.Mathlib.Omega.{arith}
+use Rattle.block.specs.Value.{value}
+use Rattle.mode.proofs.Laws.{tweak-is}
+use Rattle.mode.proofs.context_at.Statement.{statement}
+use Rattle.mode.proofs.context_at.Tie as tie
+
+returns : tie.Need-returns
+unfolding value
+returns c = (refl, refl, tweak-is (c .args .address) (omega arith))
+
+pub context-at-spec : {M : Type 1} → statement M
+context-at-spec = tie.close (tie.spec returns)

@@ -1,0 +1,4 @@
+pub mod Writes
+pub mod Verdicts
+pub mod Stages
+pub mod Mends
