@@ -17,10 +17,10 @@ ghost use Rattle.verdict.specs.Judging.{judgedBy};
 ghost use Rattle.images.specs.Lent.{Within};
 
 // Judges sector i of the images with a prepared key.
-pub fn judge_part(
+pub fn judge_part<'k>(
     t: &Table,
-    w: &[u32],
-    powers: &[u64; 18],
+    w: &'k [u32],
+    powers: &'k [u64; 18],
     ctx: Context,
     s: usize,
     i: usize,

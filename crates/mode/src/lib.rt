@@ -29,17 +29,22 @@ pub struct Context {
     pub tweak: Block,
 }
 
-// What is worked out once of a key: the round keys, the powers of the hash key, E(0) and E(1).
-pub struct Prepared {
-    pub words: [u32; 44],
-    pub powers: [u64; 18],
+// E(0) and E(1).
+pub struct Masks {
     pub alpha: Block,
     pub beta: Block,
 }
 
+// What is worked out once of a key: the round keys, the powers of the hash key, E(0) and E(1).
+pub struct Prepared {
+    pub words: [u32; 44],
+    pub powers: [u64; 18],
+    pub masks: Masks,
+}
+
 pub fn prepare(t: &Table, key: &[u8]) -> Prepared
     requires { ⌜ (now t ≡ roundTable) × (isKey (keyFrom (now key)) ≡ true) ⌝ }
-    ensures { λ r. ⌜ PreparedFor (keyFrom (now (key .entry))) (now (t .entry)) (r .words) (r .powers) (r .alpha) (r .beta) ⌝ }
+    ensures { λ r. ⌜ PreparedFor (keyFrom (now (key .entry))) (now (t .entry)) (r .words) (r .powers) (r .masks .alpha) (r .masks .beta) ⌝ }
 {
     let mut w = [0u32; 44];
     aes::expand(t, &key[16..], &mut w);
@@ -49,15 +54,16 @@ pub fn prepare(t: &Table, key: &[u8]) -> Prepared
     Prepared {
         words: w,
         powers,
-        alpha,
-        beta,
+        masks: Masks { alpha, beta },
     }
 }
 
-// A key's blocks with the tweak of an address: the one place where an address becomes a block.
-pub fn context_at(alpha: Block, beta: Block, address: u64) -> Context
-    ensures { λ r. ⌜ (r .alpha ≡ alpha) × (r .beta ≡ beta) × (value (r .tweak) ≡ tweak address) ⌝ }
+// A key's masks with the tweak of an address: the one place where an address becomes a block.
+pub fn context_at(masks: Masks, address: u64) -> Context
+    ensures { λ r. ⌜ (r .alpha ≡ masks .alpha) × (r .beta ≡ masks .beta) × (value (r .tweak) ≡ tweak address) ⌝ }
 {
+    let alpha = masks.alpha;
+    let beta = masks.beta;
     Context {
         alpha,
         beta,
@@ -82,7 +88,7 @@ pub fn prepare_at(t: &Table, key: &[u8], address: u64) -> PreparedAt
     PreparedAt {
         words,
         powers,
-        context: context_at(k.alpha, k.beta, address),
+        context: context_at(k.masks, address),
     }
 }
 

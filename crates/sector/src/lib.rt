@@ -34,15 +34,13 @@ fn judge_checked(
 {
     let t = aes::table();
     let k = mode::prepare_at(&t, key, address);
-    let w = k.words;
-    let powers = k.powers;
     let s = local.len();
     let mut sum = [0u8; 4096];
     let mut scratch = [0u8; 4096];
     verdict::judge_in(
         &t,
-        &w,
-        &powers,
+        &k.words,
+        &k.powers,
         k.context,
         local,
         tag,
@@ -72,10 +70,10 @@ pub fn judge(
 }
 
 // Seals the plaintext p with a prepared key.
-fn seal_in(
+fn seal_in<'k>(
     t: &Table,
-    w: &[u32],
-    powers: &[u64; 18],
+    w: &'k [u32],
+    powers: &'k [u64; 18],
     ctx: Context,
     p: &[u8],
     local: &mut [u8],
@@ -103,9 +101,7 @@ fn seal_checked(
 {
     let t = aes::table();
     let k = mode::prepare_at(&t, key, address);
-    let w = k.words;
-    let powers = k.powers;
-    seal_in(&t, &w, &powers, k.context, p, local, remote, tag);
+    seal_in(&t, &k.words, &k.powers, k.context, p, local, remote, tag);
 }
 
 // Seals the plaintext p: writes the local sector, the remote sector and the tag.
@@ -160,10 +156,10 @@ enum Wanted {
 }
 
 // Opens a side with a prepared key: what is wanted reaches `out` only if the plaintext has the tag.
-fn open_in(
+fn open_in<'k>(
     t: &Table,
-    w: &[u32],
-    powers: &[u64; 18],
+    w: &'k [u32],
+    powers: &'k [u64; 18],
     ctx: Context,
     wanted: Wanted,
     side: Side,
@@ -205,14 +201,12 @@ fn open_checked(
 {
     let t = aes::table();
     let k = mode::prepare_at(&t, key, address);
-    let w = k.words;
-    let powers = k.powers;
     let s = x.len();
     let mut scratch = [0u8; 4096];
     open_in(
         &t,
-        &w,
-        &powers,
+        &k.words,
+        &k.powers,
         k.context,
         wanted,
         side,

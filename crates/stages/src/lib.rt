@@ -16,10 +16,10 @@ ghost use Rattle.images.specs.Lent.{Within};
 ghost use Rattle.stages.specs.Inner.{Scratch, allPlaces, one, sealBy, lateBy};
 
 // The first stage with a prepared key: p's local sector, if the sector is whole.
-pub fn first_in(
+pub fn first_in<'k>(
     t: &Table,
-    w: &[u32],
-    powers: &[u64; 18],
+    w: &'k [u32],
+    powers: &'k [u64; 18],
     ctx: Context,
     p: &[u8],
     i: usize,
@@ -58,10 +58,10 @@ pub fn first_in(
 }
 
 // The second stage with a prepared key: p's tag, if p fits the local place.
-pub fn second_in(
+pub fn second_in<'k>(
     t: &Table,
-    w: &[u32],
-    powers: &[u64; 18],
+    w: &'k [u32],
+    powers: &'k [u64; 18],
     ctx: Context,
     p: &[u8],
     i: usize,
@@ -82,10 +82,10 @@ pub fn second_in(
 }
 
 // The third stage with a prepared key: p's remote sector, if p fits the local place and the tag.
-pub fn third_in(
+pub fn third_in<'k>(
     t: &Table,
-    w: &[u32],
-    powers: &[u64; 18],
+    w: &'k [u32],
+    powers: &'k [u64; 18],
     ctx: Context,
     p: &[u8],
     i: usize,
@@ -108,10 +108,10 @@ pub fn third_in(
 }
 
 // Writes the three places of sector i as p seals.
-pub fn write_all(
+pub fn write_all<'k>(
     t: &Table,
-    w: &[u32],
-    powers: &[u64; 18],
+    w: &'k [u32],
+    powers: &'k [u64; 18],
     ctx: Context,
     p: &[u8],
     i: usize,
@@ -153,10 +153,10 @@ fn write_place(
 }
 
 // The mend with a prepared key: the doubtful place as the one plaintext seals.
-pub fn mend_in(
+pub fn mend_in<'k>(
     t: &Table,
-    w: &[u32],
-    powers: &[u64; 18],
+    w: &'k [u32],
+    powers: &'k [u64; 18],
     ctx: Context,
     s: usize,
     i: usize,

@@ -3,7 +3,7 @@ use aes::Table;
 use answers::Done;
 use answers::Judged;
 use answers::Refusal;
-use block::Block;
+use mode::Masks;
 ghost use mathlib.Core.Path.{_≡_};
 ghost use mathlib.Core.Bool.{true};
 ghost use Prim.Native.Nat.{_<_, _≤_};
@@ -32,12 +32,11 @@ pub enum Surveyed {
 }
 
 // Judges sector i, whose number makes the context.
-fn judge_sector(
+fn judge_at<'k>(
     t: &Table,
-    w: &[u32],
-    powers: &[u64; 18],
-    alpha: Block,
-    beta: Block,
+    w: &'k [u32],
+    powers: &'k [u64; 18],
+    masks: Masks,
     s: usize,
     i: usize,
     local: &[u8],
@@ -47,10 +46,10 @@ fn judge_sector(
     sum: &mut [u8],
     scratch: &mut [u8],
 ) -> Judged
-    requires { ⌜ KeyReady (now t) (now w) (now powers) alpha beta × Within s i (length (now local)) (length (now tags)) (length (now remote)) × (length (now plain) ≡ s) × (length (now sum) ≡ s) × (length (now scratch) ≡ s) ⌝ }
+    requires { ⌜ KeyReady (now t) (now w) (now powers) (masks .alpha) (masks .beta) × Within s i (length (now local)) (length (now tags)) (length (now remote)) × (length (now plain) ≡ s) × (length (now sum) ≡ s) × (length (now scratch) ≡ s) ⌝ }
     ensures { λ r. ⌜ Tells r (verdictBy (schemeOf (now (w .entry)) (now (powers .entry))) s (now (local .entry)) (now (tags .entry)) (now (remote .entry)) i) ⌝ }
 {
-    let ctx = mode::context_at(alpha, beta, i as u64);
+    let ctx = mode::context_at(masks, i as u64);
     images::judge_part(
         t,
         w,
@@ -116,12 +115,11 @@ fn thousandths(whole: usize, n: usize) -> usize
 }
 
 // The survey with a prepared key.
-fn survey_in(
+fn survey_in<'k>(
     t: &Table,
-    w: &[u32],
-    powers: &[u64; 18],
-    alpha: Block,
-    beta: Block,
+    w: &'k [u32],
+    powers: &'k [u64; 18],
+    masks: Masks,
     s: usize,
     n: usize,
     local: &[u8],
@@ -132,7 +130,7 @@ fn survey_in(
     sum: &mut [u8],
     scratch: &mut [u8],
 ) -> Counts
-    requires { ⌜ KeyReady (now t) (now w) (now powers) alpha beta × Room s n (length (now local)) (length (now tags)) (length (now remote)) × (n ≤ length (now list)) × (length (now plain) ≡ s) × (length (now sum) ≡ s) × (length (now scratch) ≡ s) ⌝ }
+    requires { ⌜ KeyReady (now t) (now w) (now powers) (masks .alpha) (masks .beta) × Room s n (length (now local)) (length (now tags)) (length (now remote)) × (n ≤ length (now list)) × (length (now plain) ≡ s) × (length (now sum) ≡ s) × (length (now scratch) ≡ s) ⌝ }
     ensures { λ r. ⌜ surveyed (verdictBy (schemeOf (now (w .entry)) (now (powers .entry))) s (now (local .entry)) (now (tags .entry)) (now (remote .entry))) n (now (list .entry)) ≡ (counted r, now (list .exit)) ⌝ }
 {
     let mut counts = Counts {
@@ -144,12 +142,11 @@ fn survey_in(
     };
     let mut i = 0usize;
     while i < n {
-        let judged = judge_sector(
+        let judged = judge_at(
             t,
             w,
             powers,
-            alpha,
-            beta,
+            masks,
             s,
             i,
             local,
@@ -170,12 +167,11 @@ fn survey_in(
 }
 
 // The same, with scratch slices of its own.
-fn survey_prepared(
+fn survey_prepared<'k>(
     t: &Table,
-    w: &[u32],
-    powers: &[u64; 18],
-    alpha: Block,
-    beta: Block,
+    w: &'k [u32],
+    powers: &'k [u64; 18],
+    masks: Masks,
     s: usize,
     n: usize,
     local: &[u8],
@@ -183,7 +179,7 @@ fn survey_prepared(
     remote: &[u8],
     list: &mut [u32],
 ) -> Counts
-    requires { ⌜ KeyReady (now t) (now w) (now powers) alpha beta × Room s n (length (now local)) (length (now tags)) (length (now remote)) × (n ≤ length (now list)) ⌝ }
+    requires { ⌜ KeyReady (now t) (now w) (now powers) (masks .alpha) (masks .beta) × Room s n (length (now local)) (length (now tags)) (length (now remote)) × (n ≤ length (now list)) ⌝ }
     ensures { λ r. ⌜ surveyed (verdictBy (schemeOf (now (w .entry)) (now (powers .entry))) s (now (local .entry)) (now (tags .entry)) (now (remote .entry))) n (now (list .entry)) ≡ (counted r, now (list .exit)) ⌝ }
 {
     let mut plain = [0u8; 4096];
@@ -193,8 +189,7 @@ fn survey_prepared(
         t,
         w,
         powers,
-        alpha,
-        beta,
+        masks,
         s,
         n,
         local,
@@ -221,14 +216,11 @@ fn survey_checked(
 {
     let t = aes::table();
     let k = mode::prepare(&t, key);
-    let w = k.words;
-    let powers = k.powers;
     survey_prepared(
         &t,
-        &w,
-        &powers,
-        k.alpha,
-        k.beta,
+        &k.words,
+        &k.powers,
+        k.masks,
         s,
         n,
         local,

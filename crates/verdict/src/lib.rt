@@ -122,10 +122,10 @@ fn judge_failing_sum(
 
 // Judges in two scratch slices. The sum local ⊕ remote comes first: where it fits all three places nothing else can fit two, so a whole
 // sector costs one hash and one pad a block.
-pub fn judge_in(
+pub fn judge_in<'k>(
     t: &Table,
-    w: &[u32],
-    powers: &[u64; 18],
+    w: &'k [u32],
+    powers: &'k [u64; 18],
     ctx: Context,
     local: &[u8],
     tag: &[u8],

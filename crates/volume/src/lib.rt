@@ -30,14 +30,12 @@ fn read_checked(
 {
     let t = aes::table();
     let k = mode::prepare_at(&t, key, i as u64);
-    let w = k.words;
-    let powers = k.powers;
     let mut sum = [0u8; 4096];
     let mut scratch = [0u8; 4096];
     images::judge_part(
         &t,
-        &w,
-        &powers,
+        &k.words,
+        &k.powers,
         k.context,
         s,
         i,
@@ -63,16 +61,14 @@ fn first_checked(
 {
     let t = aes::table();
     let k = mode::prepare_at(&t, key, i as u64);
-    let w = k.words;
-    let powers = k.powers;
     let s = p.len();
     let mut plain = [0u8; 4096];
     let mut sum = [0u8; 4096];
     let mut scratch = [0u8; 4096];
     stages::first_in(
         &t,
-        &w,
-        &powers,
+        &k.words,
+        &k.powers,
         k.context,
         p,
         i,
@@ -98,14 +94,12 @@ fn second_checked(
 {
     let t = aes::table();
     let k = mode::prepare_at(&t, key, i as u64);
-    let w = k.words;
-    let powers = k.powers;
     let s = p.len();
     let mut scratch = [0u8; 4096];
     stages::second_in(
         &t,
-        &w,
-        &powers,
+        &k.words,
+        &k.powers,
         k.context,
         p,
         i,
@@ -129,14 +123,12 @@ fn third_checked(
 {
     let t = aes::table();
     let k = mode::prepare_at(&t, key, i as u64);
-    let w = k.words;
-    let powers = k.powers;
     let s = p.len();
     let mut scratch = [0u8; 4096];
     stages::third_in(
         &t,
-        &w,
-        &powers,
+        &k.words,
+        &k.powers,
         k.context,
         p,
         i,
@@ -160,9 +152,17 @@ fn blank_checked(
 {
     let t = aes::table();
     let k = mode::prepare_at(&t, key, i as u64);
-    let w = k.words;
-    let powers = k.powers;
-    stages::write_all(&t, &w, &powers, k.context, p, i, local, tags, remote);
+    stages::write_all(
+        &t,
+        &k.words,
+        &k.powers,
+        k.context,
+        p,
+        i,
+        local,
+        tags,
+        remote,
+    );
 }
 
 fn mend_checked(
@@ -178,15 +178,13 @@ fn mend_checked(
 {
     let t = aes::table();
     let k = mode::prepare_at(&t, key, i as u64);
-    let w = k.words;
-    let powers = k.powers;
     let mut plain = [0u8; 4096];
     let mut sum = [0u8; 4096];
     let mut scratch = [0u8; 4096];
     stages::mend_in(
         &t,
-        &w,
-        &powers,
+        &k.words,
+        &k.powers,
         k.context,
         s,
         i,

@@ -12,20 +12,17 @@ table-requires c κs = search needs
 prepare-at-requires : tie.Need-prepare-at-requires
 prepare-at-requires c κs = search needs
 
-slice-aggregate-open-in : tie.Need-slice-aggregate-open-in
-slice-aggregate-open-in c = search needs
-
 array-borrow-prefix-scratch : tie.Need-array-borrow-prefix-scratch
 array-borrow-prefix-scratch c = search needs
 
-slice-aggregate-open-in-2 : tie.Need-slice-aggregate-open-in-2
-slice-aggregate-open-in-2 c = let z = c .before .before .before .before .before .before .before .before .before .before .before .before .before .before .pre .1 in simp length-take (omega arith)
+slice-aggregate-open-in : tie.Need-slice-aggregate-open-in
+slice-aggregate-open-in c = let z = c .before .before .before .before .before .before .before .before .before .before .before .before .before .before .before .pre .1 in simp length-take (omega arith)
 
 open-in-requires : tie.Need-open-in-requires
 open-in-requires c κs =
-    let s = c .before .before .before .before .before .before .before .before .before .before .before .before .before .before in
+    let s = c .before .before .before .before .before .before .before .before .before .before .before .before .before .before .before in
     let z = s .pre .1 in
-    let prepared = c .before .before .before .before .before .before .before .prepare-at .ensures in
+    let prepared = c .before .before .before .before .before .before .before .before .prepare-at .ensures in
     opening-ready _ (s .args .address) prepared z (simp length-take (omega arith))
 
 same-length : tie.Need-same-length
@@ -33,8 +30,8 @@ same-length c = search needs
 
 returns : tie.Need-returns
 returns c =
-    let a = c .before .before .before .before .before .before .before .before .before .before .before .before .before .before .before .before .before .before .args in
-    let prepared = c .before .before .before .before .before .before .before .before .before .before .before .prepare-at .ensures in
+    let a = c .before .before .before .before .before .before .before .before .before .before .before .before .before .before .before .before .before .before .before .args in
+    let prepared = c .before .before .before .before .before .before .before .before .before .before .before .before .prepare-at .ensures in
     opened-is _ (a .address) prepared (a .wanted) (sideNamed (a .side)) (a .x .now) (a .tag .now) (a .out .now) (c .before .before .before .open-in .ensures)
 
 pub open-checked-spec : {M : Type 1} → statement M
@@ -43,9 +40,8 @@ open-checked-spec =
     (tie.spec
     table-requires
     prepare-at-requires
-    slice-aggregate-open-in
     array-borrow-prefix-scratch
-    slice-aggregate-open-in-2
+    slice-aggregate-open-in
     open-in-requires
     same-length
     returns)

@@ -10,13 +10,10 @@ table-requires c κs = search needs
 prepare-at-requires : tie.Need-prepare-at-requires
 prepare-at-requires c κs = search needs
 
-slice-aggregate-seal-in : tie.Need-slice-aggregate-seal-in
-slice-aggregate-seal-in c = search needs
-
 seal-in-requires : tie.Need-seal-in-requires
 seal-in-requires c κs =
-    let s = c .before .before .before .before .before .before .before .before .before .before .before .before .before .before .before .before in
-    let prepared = c .before .before .before .before .before .before .before .before .prepare-at .ensures in
+    let s = c .before .before .before .before .before .before .before .before .before .before .before .before .before .before .before .before .before in
+    let prepared = c .before .before .before .before .before .before .before .before .before .prepare-at .ensures in
     (prepared .0 .ready, s .pre .1)
 
 same-length : tie.Need-same-length
@@ -30,8 +27,8 @@ same-length-3 c = search needs
 
 returns : tie.Need-returns
 returns c =
-    let a = c .before .before .before .before .before .before .before .before .before .before .before .before .before .before .before .before .before .before .before .before .before .before .before .args in
-    let prepared = c .before .before .before .before .before .before .before .before .before .before .before .before .before .before .before .prepare-at .ensures in
+    let a = c .before .before .before .before .before .before .before .before .before .before .before .before .before .before .before .before .before .before .before .before .before .before .before .before .args in
+    let prepared = c .before .before .before .before .before .before .before .before .before .before .before .before .before .before .before .before .prepare-at .ensures in
     c .before .before .before .before .before .before .seal-in .ensures ∙ scheme-sealed _ (a .address) prepared (a .p .now)
 
 pub seal-checked-spec : {M : Type 1} → statement M
@@ -40,7 +37,6 @@ seal-checked-spec =
     (tie.spec
     table-requires
     prepare-at-requires
-    slice-aggregate-seal-in
     seal-in-requires
     same-length
     same-length-2

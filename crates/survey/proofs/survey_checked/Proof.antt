@@ -9,9 +9,6 @@ table-requires c κs = search needs
 prepare-requires : tie.Need-prepare-requires
 prepare-requires c κs = search needs
 
-slice-aggregate-survey-prepared : tie.Need-slice-aggregate-survey-prepared
-slice-aggregate-survey-prepared c = search needs
-
 survey-prepared-requires : tie.Need-survey-prepared-requires
 survey-prepared-requires c κs = search needs
 
@@ -27,7 +24,6 @@ survey-checked-spec =
     (tie.spec
     table-requires
     prepare-requires
-    slice-aggregate-survey-prepared
     survey-prepared-requires
     same-length
     returns)

@@ -11,18 +11,18 @@ use Rattle.survey.proofs.survey_in.Statement.{statement}
 use Rattle.survey.proofs.survey_in.Tie as tie
 
 abbrev Inv-loop : tie.InvT-loop
-Inv-loop t w powers alpha beta s n local tags remote list₀ plain₀ sum₀ scratch₀ counts₀ i₀ list plain sum scratch counts i =
+Inv-loop t w powers masks s n local tags remote list₀ plain₀ sum₀ scratch₀ counts₀ i₀ list plain sum scratch counts i =
     Loop (verdictBy (schemeOf w powers) s local tags remote) n list₀ i counts list × (length plain ≡ s) × (length sum ≡ s) × (length scratch ≡ s)
 
 abbrev μ-loop : tie.MeasureT-loop
-μ-loop t w powers alpha beta s n local tags remote list₀ plain₀ sum₀ scratch₀ counts₀ i₀ list plain sum scratch counts i =
+μ-loop t w powers masks s n local tags remote list₀ plain₀ sum₀ scratch₀ counts₀ i₀ list plain sum scratch counts i =
     n - i
 
 loop-holds : tie.Need-loop-holds Inv-loop μ-loop
 loop-holds c = search (needs, loop-none)
 
-judge-sector-requires : tie.Need-judge-sector-requires Inv-loop μ-loop
-judge-sector-requires c κs = search (needs, within-room)
+judge-at-requires : tie.Need-judge-at-requires Inv-loop μ-loop
+judge-at-requires c κs = search (needs, within-room)
 
 sub-at : tie.Need-sub-at Inv-loop μ-loop
 sub-at c = search needs
@@ -72,7 +72,7 @@ survey-in-spec =
     Inv-loop
     μ-loop
     loop-holds
-    judge-sector-requires
+    judge-at-requires
     sub-at
     list-number-requires
     count-verdict-requires

@@ -9,9 +9,6 @@ table-requires c κs = search needs
 prepare-at-requires : tie.Need-prepare-at-requires
 prepare-at-requires c κs = search needs
 
-slice-aggregate-write-all : tie.Need-slice-aggregate-write-all
-slice-aggregate-write-all c = search needs
-
 write-all-requires : tie.Need-write-all-requires
 write-all-requires c κs = search needs
 
@@ -33,7 +30,6 @@ blank-checked-spec =
     (tie.spec
     table-requires
     prepare-at-requires
-    slice-aggregate-write-all
     write-all-requires
     same-length
     same-length-2

@@ -10,26 +10,23 @@ table-requires c κs = search needs
 prepare-at-requires : tie.Need-prepare-at-requires
 prepare-at-requires c κs = search needs
 
-slice-aggregate-first-in : tie.Need-slice-aggregate-first-in
-slice-aggregate-first-in c = search needs
-
 array-borrow-prefix-plain : tie.Need-array-borrow-prefix-plain
 array-borrow-prefix-plain c = search needs
 
-slice-aggregate-first-in-2 : tie.Need-slice-aggregate-first-in-2
-slice-aggregate-first-in-2 c = search (needs, prefix-size)
+slice-aggregate-first-in : tie.Need-slice-aggregate-first-in
+slice-aggregate-first-in c = search (needs, prefix-size)
 
 array-borrow-prefix-sum : tie.Need-array-borrow-prefix-sum
 array-borrow-prefix-sum c = search needs
 
-slice-aggregate-first-in-3 : tie.Need-slice-aggregate-first-in-3
-slice-aggregate-first-in-3 c = search (needs, prefix-size)
+slice-aggregate-first-in-2 : tie.Need-slice-aggregate-first-in-2
+slice-aggregate-first-in-2 c = search (needs, prefix-size)
 
 array-borrow-prefix-scratch : tie.Need-array-borrow-prefix-scratch
 array-borrow-prefix-scratch c = search needs
 
-slice-aggregate-first-in-4 : tie.Need-slice-aggregate-first-in-4
-slice-aggregate-first-in-4 c = search (needs, prefix-size)
+slice-aggregate-first-in-3 : tie.Need-slice-aggregate-first-in-3
+slice-aggregate-first-in-3 c = search (needs, prefix-size)
 
 first-in-requires : tie.Need-first-in-requires
 first-in-requires c κs = search (needs, scratch-sized)
@@ -46,13 +43,12 @@ first-checked-spec =
     (tie.spec
     table-requires
     prepare-at-requires
-    slice-aggregate-first-in
     array-borrow-prefix-plain
-    slice-aggregate-first-in-2
+    slice-aggregate-first-in
     array-borrow-prefix-sum
-    slice-aggregate-first-in-3
+    slice-aggregate-first-in-2
     array-borrow-prefix-scratch
-    slice-aggregate-first-in-4
+    slice-aggregate-first-in-3
     first-in-requires
     same-length
     returns)

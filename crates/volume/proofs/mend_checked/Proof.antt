@@ -10,26 +10,23 @@ table-requires c κs = search needs
 prepare-at-requires : tie.Need-prepare-at-requires
 prepare-at-requires c κs = search needs
 
-slice-aggregate-mend-in : tie.Need-slice-aggregate-mend-in
-slice-aggregate-mend-in c = search needs
-
 array-borrow-prefix-plain : tie.Need-array-borrow-prefix-plain
 array-borrow-prefix-plain c = search needs
 
-slice-aggregate-mend-in-2 : tie.Need-slice-aggregate-mend-in-2
-slice-aggregate-mend-in-2 c = search (needs, prefix-size)
+slice-aggregate-mend-in : tie.Need-slice-aggregate-mend-in
+slice-aggregate-mend-in c = search (needs, prefix-size)
 
 array-borrow-prefix-sum : tie.Need-array-borrow-prefix-sum
 array-borrow-prefix-sum c = search needs
 
-slice-aggregate-mend-in-3 : tie.Need-slice-aggregate-mend-in-3
-slice-aggregate-mend-in-3 c = search (needs, prefix-size)
+slice-aggregate-mend-in-2 : tie.Need-slice-aggregate-mend-in-2
+slice-aggregate-mend-in-2 c = search (needs, prefix-size)
 
 array-borrow-prefix-scratch : tie.Need-array-borrow-prefix-scratch
 array-borrow-prefix-scratch c = search needs
 
-slice-aggregate-mend-in-4 : tie.Need-slice-aggregate-mend-in-4
-slice-aggregate-mend-in-4 c = search (needs, prefix-size)
+slice-aggregate-mend-in-3 : tie.Need-slice-aggregate-mend-in-3
+slice-aggregate-mend-in-3 c = search (needs, prefix-size)
 
 mend-in-requires : tie.Need-mend-in-requires
 mend-in-requires c κs = search (needs, scratch-sized)
@@ -52,13 +49,12 @@ mend-checked-spec =
     (tie.spec
     table-requires
     prepare-at-requires
-    slice-aggregate-mend-in
     array-borrow-prefix-plain
-    slice-aggregate-mend-in-2
+    slice-aggregate-mend-in
     array-borrow-prefix-sum
-    slice-aggregate-mend-in-3
+    slice-aggregate-mend-in-2
     array-borrow-prefix-scratch
-    slice-aggregate-mend-in-4
+    slice-aggregate-mend-in-3
     mend-in-requires
     same-length
     same-length-2

@@ -10,20 +10,17 @@ table-requires c κs = search needs
 prepare-at-requires : tie.Need-prepare-at-requires
 prepare-at-requires c κs = search needs
 
-slice-aggregate-judge-part : tie.Need-slice-aggregate-judge-part
-slice-aggregate-judge-part c = search needs
-
 array-borrow-prefix-sum : tie.Need-array-borrow-prefix-sum
 array-borrow-prefix-sum c = search needs
 
-slice-aggregate-judge-part-2 : tie.Need-slice-aggregate-judge-part-2
-slice-aggregate-judge-part-2 c = search (needs, prefix-size)
+slice-aggregate-judge-part : tie.Need-slice-aggregate-judge-part
+slice-aggregate-judge-part c = search (needs, prefix-size)
 
 array-borrow-prefix-scratch : tie.Need-array-borrow-prefix-scratch
 array-borrow-prefix-scratch c = search needs
 
-slice-aggregate-judge-part-3 : tie.Need-slice-aggregate-judge-part-3
-slice-aggregate-judge-part-3 c = search (needs, prefix-size)
+slice-aggregate-judge-part-2 : tie.Need-slice-aggregate-judge-part-2
+slice-aggregate-judge-part-2 c = search (needs, prefix-size)
 
 judge-part-requires : tie.Need-judge-part-requires
 judge-part-requires c κs = search (needs, prefix-size)
@@ -40,11 +37,10 @@ read-checked-spec =
     (tie.spec
     table-requires
     prepare-at-requires
-    slice-aggregate-judge-part
     array-borrow-prefix-sum
-    slice-aggregate-judge-part-2
+    slice-aggregate-judge-part
     array-borrow-prefix-scratch
-    slice-aggregate-judge-part-3
+    slice-aggregate-judge-part-2
     judge-part-requires
     same-length
     returns)

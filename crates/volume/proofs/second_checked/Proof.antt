@@ -10,14 +10,11 @@ table-requires c κs = search needs
 prepare-at-requires : tie.Need-prepare-at-requires
 prepare-at-requires c κs = search needs
 
-slice-aggregate-second-in : tie.Need-slice-aggregate-second-in
-slice-aggregate-second-in c = search needs
-
 array-borrow-prefix-scratch : tie.Need-array-borrow-prefix-scratch
 array-borrow-prefix-scratch c = search needs
 
-slice-aggregate-second-in-2 : tie.Need-slice-aggregate-second-in-2
-slice-aggregate-second-in-2 c = search (needs, prefix-size)
+slice-aggregate-second-in : tie.Need-slice-aggregate-second-in
+slice-aggregate-second-in c = search (needs, prefix-size)
 
 second-in-requires : tie.Need-second-in-requires
 second-in-requires c κs = search (needs, prefix-size)
@@ -34,9 +31,8 @@ second-checked-spec =
     (tie.spec
     table-requires
     prepare-at-requires
-    slice-aggregate-second-in
     array-borrow-prefix-scratch
-    slice-aggregate-second-in-2
+    slice-aggregate-second-in
     second-in-requires
     same-length
     returns)

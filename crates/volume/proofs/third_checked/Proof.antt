@@ -10,14 +10,11 @@ table-requires c κs = search needs
 prepare-at-requires : tie.Need-prepare-at-requires
 prepare-at-requires c κs = search needs
 
-slice-aggregate-third-in : tie.Need-slice-aggregate-third-in
-slice-aggregate-third-in c = search needs
-
 array-borrow-prefix-scratch : tie.Need-array-borrow-prefix-scratch
 array-borrow-prefix-scratch c = search needs
 
-slice-aggregate-third-in-2 : tie.Need-slice-aggregate-third-in-2
-slice-aggregate-third-in-2 c = search (needs, prefix-size)
+slice-aggregate-third-in : tie.Need-slice-aggregate-third-in
+slice-aggregate-third-in c = search (needs, prefix-size)
 
 third-in-requires : tie.Need-third-in-requires
 third-in-requires c κs = search (needs, prefix-size)
@@ -34,9 +31,8 @@ third-checked-spec =
     (tie.spec
     table-requires
     prepare-at-requires
-    slice-aggregate-third-in
     array-borrow-prefix-scratch
-    slice-aggregate-third-in-2
+    slice-aggregate-third-in
     third-in-requires
     same-length
     returns)

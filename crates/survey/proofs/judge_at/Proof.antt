@@ -1,8 +1,8 @@
 use Rattle.survey.proofs.Surveying.{verdict-by}
 use Rattle.mode.proofs.Preparing.{ready-context}
 use borrow.Author.Needs.{needs}
-use Rattle.survey.proofs.judge_sector.Statement.{statement}
-use Rattle.survey.proofs.judge_sector.Tie as tie
+use Rattle.survey.proofs.judge_at.Statement.{statement}
+use Rattle.survey.proofs.judge_at.Tie as tie
 
 context-at-requires : tie.Need-context-at-requires
 context-at-requires c κs = search needs
@@ -22,7 +22,7 @@ same-length-3 c = search needs
 returns : tie.Need-returns
 returns c = search (needs, verdict-by)
 
-pub judge-sector-spec : {M : Type 1} → statement M
-judge-sector-spec =
+pub judge-at-spec : {M : Type 1} → statement M
+judge-at-spec =
     tie.close
     (tie.spec context-at-requires judge-part-requires same-length same-length-2 same-length-3 returns)
