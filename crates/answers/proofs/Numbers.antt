@@ -1,6 +1,8 @@
 -- The numbers of answers: 0, the refusals below 128, the doubtful places above. Assumes nothing.
-use Prim.Native.Nat.{_<_}
-use lib.Dec.{lit<}
+use mathlib.Core.Path.{_≡_, refl, sym, ap, _∙_}
+use mathlib.Core.Bool.{cond}
+use Prim.Native.Nat.{ℕ, _<_}
+use lib.Dec.{eqb, lit<}
 use Rattle.mode.specs.Scheme.{Place, local, tag, remote}
 use Rattle.answers.specs.declared.Refusal.{Refusal}
 use Rattle.answers.specs.declared.Refusal.the-variants.{KeyLength, SectorSize, OtherLength, UnknownSide, NoneFits, Lost, Clashing, VolumeShape, SectorNumber, StageOrder, ListLength, NoFrame}
@@ -19,6 +21,40 @@ refusal-range SectorNumber = (lit< tt, lit< tt)
 refusal-range StageOrder = (lit< tt, lit< tt)
 refusal-range ListLength = (lit< tt, lit< tt)
 refusal-range NoFrame = (lit< tt, lit< tt)
+
+-- the refusal with a number
+abbrev numbered : ℕ → Refusal
+numbered n =
+    cond (eqb n 1) KeyLength
+    (cond (eqb n 2) SectorSize
+    (cond (eqb n 3) OtherLength
+    (cond (eqb n 4) UnknownSide
+    (cond (eqb n 5) NoneFits
+    (cond (eqb n 6) Lost
+    (cond (eqb n 7) Clashing
+    (cond (eqb n 8) VolumeShape
+    (cond (eqb n 9) SectorNumber
+    (cond (eqb n 10) StageOrder
+    (cond (eqb n 11) ListLength
+    NoFrame))))))))))
+
+numbered-back : (f : Refusal) → numbered (refusalNumber f) ≡ f
+numbered-back KeyLength = refl
+numbered-back SectorSize = refl
+numbered-back OtherLength = refl
+numbered-back UnknownSide = refl
+numbered-back NoneFits = refl
+numbered-back Lost = refl
+numbered-back Clashing = refl
+numbered-back VolumeShape = refl
+numbered-back SectorNumber = refl
+numbered-back StageOrder = refl
+numbered-back ListLength = refl
+numbered-back NoFrame = refl
+
+-- so a number names one refusal
+pub refusal-one : (f g : Refusal) → refusalNumber f ≡ refusalNumber g → f ≡ g
+refusal-one f g e = sym (numbered-back f) ∙ ap numbered e ∙ numbered-back g
 
 pub doubt-least : (p : Place) → 128 < doubtNumber p
 doubt-least local = lit< tt

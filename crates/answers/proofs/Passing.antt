@@ -4,12 +4,12 @@ use mathlib.Core.Bool.{true, false, not, _||_}
 use mathlib.Core.List.{List, [], _∷_}
 use mathlib.Core.Option.{none}
 use Prim.Native.Nat.{ℕ, _<_, _≤_}
-use lib.Dec.{eqb, ltb}
+use lib.Dec.{eqb}
 use borrow.Author.Tests.{not-false, eqb-true, eq-eqb, lt-leb, ltb-false, le-ltb}
 use Rattle.mode.specs.Sealing.{Key, Triple}
 use Rattle.mode.specs.Scheme.{isKey, isSize}
 use Rattle.mode.proofs.Sizes.{size-whole, size-le}
-use Rattle.answers.specs.Rules.{Rule, firstOf, Volume, Args, isShape, lengthRules, numberRules, listRules, sidesRules, partsRules, openRules, volumeRules, sectorRules, surveyRules}
+use Rattle.answers.specs.Rules.{Rule, firstOf, Volume, Args, isShape, lengthRules, numberRules, listRules, pairRules, partsRules, openRules, volumeRules, sectorRules, surveyRules}
 use Rattle.answers.specs.Passing.{Sizes}
 use Rattle.answers.proofs.Rules.{cond-none, only-rule, first-none, none-left, none-right}
 
@@ -39,9 +39,9 @@ sizes s x y g e ex ey eg =
     let size = not-false (isSize s) e in
     record { blocks = size-whole s size; most = size-le s size; first = ex; second = ey; tag-size = eg }
 
-pub sides-passed : (s x y : ℕ) → firstOf (sidesRules s x y) ≡ none → Sizes s x y 16
-sides-passed s x y e =
-    let (a, (b, (c, z))) = none-holds (sidesRules s x y) e in
+pub pair-passed : (s x y : ℕ) → firstOf (pairRules s x y) ≡ none → Sizes s x y 16
+pair-passed s x y e =
+    let (a, (b, (c, z))) = none-holds (pairRules s x y) e in
     sizes s x y 16 a (due x s b) (due y s c) refl
 
 pub parts-passed : (k : Key) (s x y g : ℕ) → firstOf (partsRules k s x y g) ≡ none → (isKey k ≡ true) × Sizes s x y g
@@ -56,8 +56,8 @@ open-passed k s out g side e =
 
 -- and what passes them
 
-pub sides-pass : (s x y : ℕ) → isSize s ≡ true → x ≡ s → y ≡ s → firstOf (sidesRules s x y) ≡ none
-sides-pass s x y es ex ey = simp (es, eq-eqb x s ex, eq-eqb y s ey)
+pub pair-pass : (s x y : ℕ) → isSize s ≡ true → x ≡ s → y ≡ s → firstOf (pairRules s x y) ≡ none
+pair-pass s x y es ex ey = simp (es, eq-eqb x s ex, eq-eqb y s ey)
 
 pub parts-pass : (k : Key) (s x y g : ℕ) → isKey k ≡ true → isSize s ≡ true → x ≡ s → y ≡ s → g ≡ 16 → firstOf (partsRules k s x y g) ≡ none
 parts-pass k s x y g ek es ex ey eg = simp (ek, es, eq-eqb x s ex, eq-eqb y s ey, eq-eqb g 16 eg)

@@ -9,7 +9,7 @@ use Rattle.answers.specs.declared.Refusal.{Refusal}
 use Rattle.answers.specs.declared.Done.{Done}
 use Rattle.answers.specs.declared.Done.the-variants as D
 use Rattle.answers.specs.Answers.{refusalNumber, doneOption}
-use Rattle.answers.specs.Rules.{Rule, firstOf, firstSome}
+use Rattle.answers.specs.Rules.{Rule, firstOf, firstSome, settle}
 
 -- ---- one rule
 
@@ -64,3 +64,11 @@ module _ (ys : List Rule) where
 
   pub check-refused : (xs : List Rule) {d : Done} {f : Refusal} → firstOf xs ≡ doneOption d → d ≡ D.Refused f → firstOf (xs ++ ys) ≡ some (refusalNumber f)
   check-refused xs e p = first-some xs (e ∙ ap doneOption p)
+
+-- ---- what a refusal leaves
+
+pub settle-some : {A : Type 0} {o : Option ℕ} {n : ℕ} (after : ℕ × A) (before : A) → o ≡ some n → settle o after before ≡ (n, before)
+settle-some after before e = ap (λ o. settle o after before) e
+
+pub settle-none : {A : Type 0} {o : Option ℕ} (after : ℕ × A) (before : A) → o ≡ none → settle o after before ≡ after
+settle-none after before e = ap (λ o. settle o after before) e

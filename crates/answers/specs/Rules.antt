@@ -102,12 +102,12 @@ listRules n room = rule 11 (ltb room n) ∷ []
 -- ---- the calls on a sector
 
 -- combine: the size s, and two lengths that must equal it
-abbrev pub sidesRules : ℕ → ℕ → ℕ → List Rule
-sidesRules s x y = sizeRules s ++ (lengthRules x s ++ lengthRules y s)
+abbrev pub pairRules : ℕ → ℕ → ℕ → List Rule
+pairRules s x y = sizeRules s ++ (lengthRules x s ++ lengthRules y s)
 
 -- seal and judge: these, and a tag's length
 abbrev pub partsRules : Key → ℕ → ℕ → ℕ → ℕ → List Rule
-partsRules k s x y g = keyRules k ++ (sidesRules s x y ++ lengthRules g 16)
+partsRules k s x y g = keyRules k ++ (pairRules s x y ++ lengthRules g 16)
 
 -- open and rebuild: the sector's size s, an output, a tag and the number of a side
 abbrev pub openRules : Key → ℕ → ℕ → ℕ → ℕ → List Rule

@@ -5,7 +5,7 @@ ghost use mathlib.Core.List.{_++_};
 ghost use Rattle.mode.specs.Scheme.{isSize};
 ghost use Rattle.mode.specs.Sealing.{keyFrom};
 ghost use Rattle.answers.specs.Answers.{doubtNumber, refusalNumber, placeNamed, doneNumber, judgedNumber, doneOption};
-ghost use Rattle.answers.specs.Rules.{firstOf, firstSome, keyRules, sizeRules, lengthRules, sideRules, shape, shapeRules, numberRules, listRules, volume, args, sidesRules, partsRules, openRules, volumeRules, sectorRules, surveyRules};
+ghost use Rattle.answers.specs.Rules.{firstOf, firstSome, keyRules, sizeRules, lengthRules, sideRules, shape, shapeRules, numberRules, listRules, volume, args, pairRules, partsRules, openRules, volumeRules, sectorRules, surveyRules};
 
 // Document 01's three places.
 pub enum Place {
@@ -14,7 +14,7 @@ pub enum Place {
     Remote,
 }
 
-// Document 01's refusals, from 1 on. Those from 8 on are a volume's, and the last is the program `frames`'s.
+// Document 01's refusals, from 1 on. Those from 8 on are a volume's, and 12 is the program `frames`'s.
 pub enum Refusal {
     KeyLength,
     SectorSize,
@@ -222,8 +222,8 @@ fn check_list(n: usize, room: usize) -> Done
 // ---- all refusals that come before the sector is looked at, in order
 
 // Refusals 2 and 3: the size s, and two lengths that must equal it.
-pub fn check_sides(s: usize, x: usize, y: usize) -> Done
-    ensures { λ r. ⌜ firstOf (sidesRules s x y) ≡ doneOption r ⌝ }
+pub fn check_pair(s: usize, x: usize, y: usize) -> Done
+    ensures { λ r. ⌜ firstOf (pairRules s x y) ≡ doneOption r ⌝ }
 {
     let size = check_size(s);
     let first = check_length(x, s);
@@ -237,9 +237,9 @@ pub fn check_parts(key: &[u8], s: usize, x: usize, y: usize, g: usize) -> Done
     ensures { λ r. ⌜ firstOf (partsRules (keyFrom (now (key .entry))) s x y g) ≡ doneOption r ⌝ }
 {
     let keyed = check_key(key);
-    let sides = check_sides(s, x, y);
+    let pair = check_pair(s, x, y);
     let tagged = check_length(g, 16);
-    let parts = first_refusal(sides, tagged);
+    let parts = first_refusal(pair, tagged);
     first_refusal(keyed, parts)
 }
 

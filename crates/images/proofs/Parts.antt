@@ -26,10 +26,10 @@ part-size : (w i : ℕ) (image : List ℕ) → i * w + w ≤ length image → le
 part-size w i image h = simp (length-take, length-drop) (omega arith)
 
 -- what judging asks of the sides' parts, a tag b, an output, and scratch of x and y bytes
-pub lent-parts : (s i : ℕ) (l r : List ℕ) {t w p b out : List ℕ} {m : Context} {g x y : ℕ}
-    → Ready t w p m → Within s i (length l) g (length r) → length b ≡ 16 → length out ≡ s → x ≡ s → y ≡ s
+pub lent-parts : (s i : ℕ) (l r : List ℕ) {t w p b out : List ℕ} {ctx : Context} {g x y : ℕ}
+    → Ready t w p ctx → Within s i (length l) g (length r) → length b ≡ 16 → length out ≡ s → x ≡ s → y ≡ s
     → let lent = midOf (i * s) (i * s + s - i * s) l in
-    JudgeReady t w p m lent b (midOf (i * s) (i * s + s - i * s) r) out × (x ≡ length lent) × (y ≡ length lent)
+    JudgeReady t w p ctx lent b (midOf (i * s) (i * s + s - i * s) r) out × (x ≡ length lent) × (y ≡ length lent)
 lent-parts s i l r ready z eb eo ex ey =
     let el = part-size s i l (z .local-end) in
     let er = part-size s i r (z .remote-end) in
@@ -44,10 +44,10 @@ pub lent-compared : (w i : ℕ) (image : List ℕ) {b b′ : List ℕ} → b ≡
 lent-compared w i image e ex = ex ∙ ap₂ same (lent-part w i image) e
 
 -- the parts that are judged are the sector's
-pub lent-judged : (w p : List ℕ) (m : Context) (s i : ℕ) (l g r out : List ℕ) {x : ℕ × List ℕ}
-    → judgedBy w p m (midOf (i * s) (i * s + s - i * s) l) (midOf (i * 16) (i * 16 + 16 - i * 16) g) (midOf (i * s) (i * s + s - i * s) r) out ≡ x
-    → judgedBy w p m (part s i l) (part 16 i g) (part s i r) out ≡ x
-lent-judged w p m s i l g r out e = sym (λ j. judgedBy w p m (lent-part s i l j) (lent-part 16 i g j) (lent-part s i r j) out) ∙ e
+pub lent-judged : (w p : List ℕ) (ctx : Context) (s i : ℕ) (l g r out : List ℕ) {x : ℕ × List ℕ}
+    → judgedBy w p ctx (midOf (i * s) (i * s + s - i * s) l) (midOf (i * 16) (i * 16 + 16 - i * 16) g) (midOf (i * s) (i * s + s - i * s) r) out ≡ x
+    → judgedBy w p ctx (part s i l) (part 16 i g) (part s i r) out ≡ x
+lent-judged w p ctx s i l g r out e = sym (λ j. judgedBy w p ctx (lent-part s i l j) (lent-part 16 i g j) (lent-part s i r j) out) ∙ e
 
 -- a block stored at i * 16
 pub stored-written : (i x : ℕ) (tags : List ℕ) {o : List ℕ} → o ≡ take (i * 16) tags ++ toBytes 16 x ++ drop (i * 16 + 16) tags → o ≡ patch 16 i (toBytes 16 x) tags

@@ -1,4 +1,4 @@
-// The double ciphertext mode: the tag of a plaintext, and a side block by block.
+// The double ciphertext mode: a key prepared once, the tag of a plaintext, and a side block by block.
 use aes::Table;
 use block::Block;
 ghost use mathlib.Core.Path.{_≡_};

@@ -13,7 +13,7 @@ use Rattle.mode.specs.Sealing.{Key, Triple, tweak, sealed}
 use Rattle.mode.specs.Scheme.{Place, local, tag, remote, on, wide, Sector, isKey, isSize, Scheme, Lawful, dcm, scheme}
 use Rattle.mode.proofs.Laws.{sound}
 use Rattle.answers.specs.Rules.{firstOf, openRules}
-use Rattle.answers.proofs.Passing.{sides-pass, parts-pass, open-pass}
+use Rattle.answers.proofs.Passing.{pair-pass, parts-pass, open-pass}
 use Rattle.verdict.specs.Judging.{verdictOutcome}
 use Rattle.verdict.specs.Verdict.{Fits, Verdict, whole, doubtful, lost, clashing, Means, judge, Side, localSide, remoteSide, placeOf, otherSide, sideOf, opened}
 use Rattle.verdict.specs.Verdict as W
@@ -23,7 +23,8 @@ use Rattle.verdict.proofs.OpenExact.{open-plain, opened-none, open-exact}
 use Rattle.sector.specs.Calls.{openOutcome, sealCall, judgeCall, openCall, rebuildCall, combineCall}
 use Rattle.sector.specs.Demand2.{sideNumber, SealsTo, Judges, Opens, Rebuilds, Demand2-whole, SizeBounds}
 use Rattle.sector.proofs.Opening.{outcome-some, outcome-none}
-use Rattle.sector.proofs.Public.{settle-none, seal-passes, judge-passes, combine-passes}
+use Rattle.answers.proofs.Rules.{settle-none}
+use Rattle.sector.proofs.Public.{seal-passes, judge-passes, combine-passes}
 
 -- ---- what an outcome of opening says
 
@@ -106,11 +107,11 @@ module _ (k : Key) (s : ℕ) (ek : isKey k ≡ true) (es : isSize s ≡ true) wh
     abbrev Sealed : List ℕ → Type 0
     Sealed P = SealsTo k s address d x g P
 
-    fits-of : (P : List ℕ) → Sealed P → W.Opens S (tweak address) d g x P
+    fits-of : (P : List ℕ) → Sealed P → W.FitsBoth S (tweak address) d g x P
     unfolding sealed scheme dcm
     fits-of P h = record { fits-tag = h .its-tag; fits-side = h .sector }
 
-    of-fits : (P : List ℕ) → Plain s P → W.Opens S (tweak address) d g x P → Sealed P
+    of-fits : (P : List ℕ) → Plain s P → W.FitsBoth S (tweak address) d g x P → Sealed P
     unfolding sealed scheme dcm
     of-fits P p o = record { size = p; sector = o .fits-side; its-tag = o .fits-tag }
 
@@ -197,7 +198,7 @@ module _ (k : Key) (s : ℕ) (ek : isKey k ≡ true) (es : isSize s ≡ true) wh
     combines-sealed =
         let e = long local .long in
         combine-passes (t .local) (t .remote) out
-        (sides-pass (length (t .local)) (length (t .remote)) (length out) (ap isSize e ∙ es) (long remote .long ∙ sym e) (size ∙ sym e))
+        (pair-pass (length (t .local)) (length (t .remote)) (length out) (ap isSize e ∙ es) (long remote .long ∙ sym e) (size ∙ sym e))
         refl (sym (lawful .sum (tweak address) P plain))
 
 pub demand-2 : Demand2-whole

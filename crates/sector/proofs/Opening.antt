@@ -28,8 +28,8 @@ use Rattle.sector.specs.declared.Wanted.{Wanted}
 use Rattle.sector.specs.declared.Wanted.the-variants.{Plaintext, Opposite}
 use Rattle.sector.specs.Calls.{openOutcome}
 use Rattle.sector.specs.Opening.{wantedOf, openedAs, openAs}
-use Rattle.sector.proofs.Prepared.{keyed}
-use Rattle.sector.proofs.Public.{settle-some, settle-none}
+use Rattle.mode.proofs.Preparing.{keyed}
+use Rattle.answers.proofs.Rules.{settle-some, settle-none}
 
 -- ---- the outcome, from what is found
 
@@ -64,7 +64,7 @@ module _ {k : Key} {t w p : List ℕ} (ctx : Context) (address : ℕ) (e : Prepa
 
   pub opened-is : (h : Wanted) (d : Side) (x g out : List ℕ) {a : ℕ × List ℕ}
       → openedAs h (schemeOf w p) (value (ctx .tweak)) d x g out ≡ a → openedAs h (scheme k) (tweak address) d x g out ≡ a
-  opened-is h d x g out ea = sym (keyed ctx address e (λ S T. openedAs h S T d x g out)) ∙ ea
+  opened-is h d x g out ea = sym (keyed (e .0) (e .1) (λ S T. openedAs h S T d x g out)) ∙ ea
 
 -- ---- with the checks, of which c is the answer
 

@@ -1,5 +1,5 @@
 -- What is worked out with a key prepared once is what the calls' definitions have under that key. Assumes nothing.
-use mathlib.Core.Path.{_≡_, sym, ap₂, ap, _∙_}
+use mathlib.Core.Path.{_≡_, sym, ap, _∙_}
 use mathlib.Core.List.{List, [], _++_, append-nil}
 use Prim.Native.Nat.{ℕ, _+_}
 use native.Mathlib.Nat.{le-of-eq}
@@ -10,29 +10,25 @@ use Rattle.fips197.specs.Aes.{cipherNumber}
 use Rattle.hash.specs.Powers.{keyOf}
 use Rattle.mode.specs.declared.Context.{Context}
 use Rattle.mode.specs.Prepared.{PreparedFor, schemeOf}
-use Rattle.mode.specs.Scheme.{Scheme, dcm, scheme}
+use Rattle.mode.specs.Scheme.{dcm, scheme}
 use Rattle.mode.specs.Sealing.{Key, tweak, tagBlock, sides, sealedBy, sealed, triple}
 use Rattle.answers.specs.Passing.{Sizes}
 use Rattle.verdict.specs.Judging.{verdictOutcome, JudgeReady, judgedBy}
 use Rattle.verdict.specs.Verdict.{judge}
-use Rattle.mode.proofs.Preparing.{scheme-is}
+use Rattle.mode.proofs.Preparing.{keyed}
 
 -- the round keys w, the powers p and the context of a key and an address
 module _ {k : Key} {t w p : List ℕ} (ctx : Context) (address : ℕ) (e : PreparedFor k t w p (ctx .alpha) (ctx .beta) × (value (ctx .tweak) ≡ tweak address)) where
-  -- a function of the scheme and the tweak
-  pub keyed : {A : Type 0} (f : Scheme → ℕ → A) → f (schemeOf w p) (value (ctx .tweak)) ≡ f (scheme k) (tweak address)
-  keyed f = ap₂ f (scheme-is (e .0)) (e .1)
-
   pub lent-of : (l g x out : List ℕ) → Sizes (length l) (length x) (length out) (length g) → JudgeReady t w p ctx l g x out
   lent-of l g x out z = record { ready = e .0 .ready; blocks = z .blocks; most = z .most; tag-size = z .tag-size; remote-size = z .first; out-size = z .second }
 
   pub judged-is : (l g x out : List ℕ) {a : ℕ × List ℕ} → judgedBy w p ctx l g x out ≡ a → verdictOutcome (judge (scheme k) (tweak address) (triple l g x)) out ≡ a
-  judged-is l g x out ea = sym (keyed (λ S T. verdictOutcome (judge S T (triple l g x)) out)) ∙ ea
+  judged-is l g x out ea = sym (keyed (e .0) (e .1) (λ S T. verdictOutcome (judge S T (triple l g x)) out)) ∙ ea
 
   -- sealing with the prepared key
   pub scheme-sealed : (P : List ℕ) → schemeOf w p .sealed (value (ctx .tweak)) P ≡ sealed k address P
   unfolding sealed scheme dcm
-  scheme-sealed P = keyed (λ S T. S .sealed T P)
+  scheme-sealed P = keyed (e .0) (e .1) (λ S T. S .sealed T P)
 
 -- three places that are written make the sealed sector
 pub sealed-is : (w p : List ℕ) (T : ℕ) (P old : List ℕ) → length old ≡ 16 → (g : ℕ) → g ≡ tagBlock (cipherNumber w) (keyOf p) T P

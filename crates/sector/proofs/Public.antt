@@ -1,7 +1,6 @@
 -- The calls' answers where the checks refuse, and where they pass. Assumes nothing.
 use mathlib.Core.Path.{_≡_, sym, ap, _∙_}
 use mathlib.Core.List.{List}
-use mathlib.Core.Option.{Option, none, some}
 use Prim.Native.Nat.{ℕ}
 use lib.ListN.{length}
 use Rattle.block.specs.Bytes.{xorBytes}
@@ -11,16 +10,11 @@ use Rattle.answers.specs.declared.Done.{Done}
 use Rattle.answers.specs.declared.Done.the-variants as D
 use Rattle.answers.specs.declared.Refusal.{Refusal}
 use Rattle.answers.specs.Answers.{refusalNumber, doneOption}
-use Rattle.answers.specs.Rules.{firstOf, settle, sidesRules, partsRules}
+use Rattle.answers.specs.Rules.{firstOf, pairRules, partsRules}
+use Rattle.answers.proofs.Rules.{settle-some, settle-none}
 use Rattle.verdict.specs.Judging.{verdictOutcome}
 use Rattle.verdict.specs.Verdict.{judge}
 use Rattle.sector.specs.Calls.{sealCall, judgeCall, combineCall}
-
-pub settle-some : {A : Type 0} {o : Option ℕ} {n : ℕ} (after : ℕ × A) (before : A) → o ≡ some n → settle o after before ≡ (n, before)
-settle-some after before e = ap (λ o. settle o after before) e
-
-pub settle-none : {A : Type 0} {o : Option ℕ} (after : ℕ × A) (before : A) → o ≡ none → settle o after before ≡ after
-settle-none after before e = ap (λ o. settle o after before) e
 
 -- ---- c is the answer of the checks
 
@@ -44,7 +38,7 @@ module _ (k : List ℕ) (address : ℕ) (P : List ℕ) (out : Triple) {c : Done}
   unfolding sealCall
   seal-refuses refused = settle-some (0, sealed (keyFrom k) address P) out (checked ∙ ap doneOption refused)
 
-module _ (x y out : List ℕ) {c : Done} (checked : firstOf (sidesRules (length x) (length y) (length out)) ≡ doneOption c) where
+module _ (x y out : List ℕ) {c : Done} (checked : firstOf (pairRules (length x) (length y) (length out)) ≡ doneOption c) where
   pub combine-passes : c ≡ D.Done → {o : List ℕ} → o ≡ xorBytes x y → combineCall x y out ≡ (0, o)
   unfolding combineCall
   combine-passes ok eo = settle-none (0, xorBytes x y) out (checked ∙ ap doneOption ok) ∙ ap (λ (o : List ℕ). (0, o)) (sym eo)

@@ -8,7 +8,7 @@ use Rattle.block.specs.Bytes.{xorBytes}
 use Rattle.mode.specs.Sealing.{Key, Triple, tweak, sealed}
 use Rattle.mode.specs.Scheme.{on, scheme}
 use Rattle.verdict.specs.Verdict.{judge, placeOf, otherSide, sideOf, opened}
-use Rattle.answers.specs.Rules.{firstOf, sidesRules, partsRules, openRules, settle}
+use Rattle.answers.specs.Rules.{firstOf, pairRules, partsRules, openRules, settle}
 use Rattle.verdict.specs.Judging.{verdictOutcome}
 
 -- ---- seal, with the three outputs before
@@ -49,4 +49,4 @@ rebuildCall k address d = openWith (λ P. on (sealed k address P) (placeOf (othe
 -- ---- combine
 
 unfoldable pub combineCall : List ℕ → List ℕ → List ℕ → ℕ × List ℕ
-combineCall x y out = settle (firstOf (sidesRules (length x) (length y) (length out))) (0, xorBytes x y) out
+combineCall x y out = settle (firstOf (pairRules (length x) (length y) (length out))) (0, xorBytes x y) out

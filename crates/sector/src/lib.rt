@@ -129,7 +129,7 @@ pub fn seal(
 pub fn combine(local: &[u8], remote: &[u8], out: &mut [u8]) -> Done
     ensures { λ r. ⌜ combineCall (now (local .entry)) (now (remote .entry)) (now (out .entry)) ≡ (doneNumber r, now (out .exit)) ⌝ }
 {
-    let checked = answers::check_sides(local.len(), remote.len(), out.len());
+    let checked = answers::check_pair(local.len(), remote.len(), out.len());
     match checked {
         Done::Done => {
             block::xor_bytes(local, remote, out);

@@ -1,8 +1,8 @@
 -- What is proved of the survey. Assumes nothing.
-use mathlib.Core.Path.{_≡_, refl, sym, subst}
+use mathlib.Core.Path.{_≡_, refl}
 use mathlib.Core.Bool.{Bool, true, false}
-use mathlib.Core.List.{List, [], _∷_}
-use mathlib.Core.Option.{Option, none, some}
+use mathlib.Core.List.{List}
+use mathlib.Core.Option.{none, some}
 use Prim.Native.Nat.{ℕ, _+_, _<_, _≤_}
 use native.Mathlib.Omega.{arith}
 use Rattle.block.proofs.Lists.{false-true}
@@ -12,8 +12,8 @@ use Rattle.history.specs.History.{Found, Promise, Promised}
 use Rattle.history.specs.HistoryFrom.{AnyBytes}
 use Rattle.history.specs.Machine.{Held, gone, kept, start}
 use Rattle.answers.specs.Rules.{Volume}
-use Rattle.history.specs.Power.{Event, call, damage, CutOf, leaves, Allowed, AllAllowed, run, hold}
-use Rattle.history.specs.Volume.{refusal, mirror}
+use Rattle.history.specs.Power.{Event, AllAllowed, run, hold}
+use Rattle.history.specs.Volume.{mirror}
 use Rattle.history.proofs.Demand3.{mirror-sound, general}
 use Rattle.history.proofs.Events.{run-bytes}
 use Rattle.answers.proofs.Passing.{Common}

@@ -20,12 +20,12 @@ use Rattle.answers.specs.declared.Judged.{Judged}
 use Rattle.answers.specs.declared.Judged.the-variants as J
 use Rattle.answers.specs.declared.Place as D
 use Rattle.answers.specs.declared.Refusal.{Refusal}
-use Rattle.answers.specs.declared.Refusal.the-variants.{KeyLength, SectorSize, OtherLength, UnknownSide, NoneFits, Lost, Clashing, VolumeShape, SectorNumber, StageOrder, ListLength, NoFrame}
+use Rattle.answers.specs.declared.Refusal.the-variants.{Lost}
 use Rattle.answers.specs.Answers.{refusalNumber, placeNamed, judgedNumber}
 use Rattle.verdict.specs.Judging.{verdictNumber, judgedBy}
 use Rattle.verdict.specs.Verdict.{Verdict, whole, doubtful, lost, clashing, fits, fitsTwo, candidate, grade, judge}
 use Rattle.mode.proofs.Preparing.{scheme-is}
-use Rattle.answers.proofs.Numbers.{refusal-range, doubt-least}
+use Rattle.answers.proofs.Numbers.{refusal-range, doubt-least, refusal-one}
 use Rattle.verdict.proofs.Numbers.{outcome-number}
 use Rattle.history.specs.Answers.{isWhole, isDoubtful, isClashing, isLost}
 use Rattle.history.specs.Volume.{mirror}
@@ -43,20 +43,6 @@ pub record Kind (w : Verdict) (a b c d : Bool) : Type 0 where
   pub doubtful : isDoubtful w ≡ b
   pub clashing : isClashing w ≡ c
   pub lost : isLost w ≡ d
-
-six-lost : (f : Refusal) → refusalNumber f ≡ 6 → f ≡ Lost
-six-lost KeyLength e = absurd (omega arith)
-six-lost SectorSize e = absurd (omega arith)
-six-lost OtherLength e = absurd (omega arith)
-six-lost UnknownSide e = absurd (omega arith)
-six-lost NoneFits e = absurd (omega arith)
-six-lost Lost e = refl
-six-lost Clashing e = absurd (omega arith)
-six-lost VolumeShape e = absurd (omega arith)
-six-lost SectorNumber e = absurd (omega arith)
-six-lost StageOrder e = absurd (omega arith)
-six-lost ListLength e = absurd (omega arith)
-six-lost NoFrame e = absurd (omega arith)
 
 pub tells-whole : {j : Judged} → j ≡ J.Whole → (w : Verdict) → Tells j w → Kind w true false false false
 unfolding isWhole isDoubtful isClashing isLost
@@ -90,7 +76,7 @@ tells-lost z d w e = tells-refused (z ∙ ap J.Refused d) w e
 
 pub tells-clashing : {j : Judged} {f : Refusal} → j ≡ J.Refused f → (f ≡ Lost → ⊥) → (w : Verdict) → Tells j w → Kind w false false true false
 tells-clashing {j} {f} z d w e =
-    subst (λ (x : Bool). Kind w false false (not x) x) (ne-eqb (refusalNumber f) 6 (λ y. d (six-lost f y))) (tells-refused z w e)
+    subst (λ (x : Bool). Kind w false false (not x) x) (ne-eqb (refusalNumber f) 6 (λ y. d (refusal-one f Lost y))) (tells-refused z w e)
 
 -- the counts with one sector more
 pub counts-one : (w : Verdict) {a b x d : Bool} → Kind w a b x d → (c : Counts) {k l m n : ℕ}

@@ -33,12 +33,12 @@ pub record Known (l g r : List ℕ) : Type 0 where
   pub tag-size : length g ≡ 16
   pub remote-size : length r ≡ length l
 
-pub known-of : {t w p : List ℕ} {m : Context} {l g r out : List ℕ} → JudgeReady t w p m l g r out → Bytes l → Bytes g → Bytes r → Known l g r
+pub known-of : {t w p : List ℕ} {ctx : Context} {l g r out : List ℕ} → JudgeReady t w p ctx l g r out → Bytes l → Bytes g → Bytes r → Known l g r
 known-of e bl bg br = record { bytes-l = bl; bytes-g = bg; bytes-r = br; blocks = e .blocks; tag-size = e .tag-size; remote-size = e .remote-size }
 
-module _ (w p : List ℕ) (m : Context) (l g r : List ℕ) (known : Known l g r) where
+module _ (w p : List ℕ) (ctx : Context) (l g r : List ℕ) (known : Known l g r) where
   abbrev T : ℕ
-  T = value (m .tweak)
+  T = value (ctx .tweak)
 
   abbrev t : Triple
   t = triple l g r
@@ -93,7 +93,7 @@ module _ (w p : List ℕ) (m : Context) (l g r : List ℕ) (known : Known l g r)
   unfolding candidate
   right-is o e = e .0
 
-  answer : (out : List ℕ) {v : Verdict} → judge S T t ≡ v → judgedBy w p m l g r out ≡ verdictOutcome v out
+  answer : (out : List ℕ) {v : Verdict} → judge S T t ≡ v → judgedBy w p ctx l g r out ≡ verdictOutcome v out
   answer out e = ap (λ (v : Verdict). verdictOutcome v out) e
 
   -- the sum is a candidate
@@ -108,7 +108,7 @@ module _ (w p : List ℕ) (m : Context) (l g r : List ℕ) (known : Known l g r)
     unfolding fits dcm sealedBy sides remoteBlock
     remote-test = ex ∙ ap (same r) (eo ∙ ap (λ (n : ℕ). blockwise (remoteBlock (cipherNumber w) n) 1 (blocksOf sum)) ek)
 
-    pub sum-fails : x ≡ false → SumFails w p m l g r
+    pub sum-fails : x ≡ false → SumFails w p ctx l g r
     unfolding SumFails
     sum-fails nx = ap (fits S T t remote) (sym es) ∙ sym remote-test ∙ nx
 
@@ -118,10 +118,10 @@ module _ (w p : List ℕ) (m : Context) (l g r : List ℕ) (known : Known l g r)
       unfolding fits
       tag-test = tag-compared w p T g (known .tag-size) (known .bytes-g) sum k n ek en ey
 
-      pub sum-fits : y ≡ false → SumFits w p m l g r sum
+      pub sum-fits : y ≡ false → SumFits w p ctx l g r sum
       sum-fits ny = record { is-sum = es; fits-remote = sym remote-test ∙ tx; fits-no-tag = sym tag-test ∙ ny }
 
-      pub sum-whole : y ≡ true → (out : List ℕ) {a : List ℕ} → a ≡ sum → judgedBy w p m l g r out ≡ (0, a)
+      pub sum-whole : y ≡ true → (out : List ℕ) {a : List ℕ} → a ≡ sum → judgedBy w p ctx l g r out ≡ (0, a)
       sum-whole ty out ea =
           let c = sum-is sum es in
           answer out
@@ -133,44 +133,44 @@ module _ (w p : List ℕ) (m : Context) (l g r : List ℕ) (known : Known l g r)
   module _ (out : List ℕ) where
     -- ---- it fits the sides only
 
-    module _ (sum : List ℕ) (f : SumFits w p m l g r sum) where
+    module _ (sum : List ℕ) (f : SumFits w p ctx l g r sum) where
       fits-sides : Fits S T t remote (candidate S T t tag)
       fits-sides = subst (λ (Q : List ℕ). Fits S T t remote Q) (sum-is sum (f .is-sum)) (fits-Fits S T t remote sum (f .fits-remote))
 
       fits-no-tag : Fits S T t tag (candidate S T t tag) → ⊥
       fits-no-tag x = misfits S T t tag sum (f .fits-no-tag) (subst (λ (Q : List ℕ). Fits S T t tag Q) (sym (sum-is sum (f .is-sum))) x)
 
-      pub clash-left : {o : List ℕ} {x : Bool} → Tried localSide l o x → x ≡ true → judgedBy w p m l g r out ≡ (7, out)
+      pub clash-left : {o : List ℕ} {x : Bool} → Tried localSide l o x → x ≡ true → judgedBy w p ctx l g r out ≡ (7, out)
       clash-left {o} e y = answer out (cases.clash-left (length l) S lawful T t sector fits-sides fits-no-tag (left-yes o e y))
 
-      pub clash-right : {o : List ℕ} {x : Bool} → Tried remoteSide r o x → x ≡ true → judgedBy w p m l g r out ≡ (7, out)
+      pub clash-right : {o : List ℕ} {x : Bool} → Tried remoteSide r o x → x ≡ true → judgedBy w p ctx l g r out ≡ (7, out)
       clash-right {o} e y = answer out (cases.clash-right (length l) S lawful T t sector fits-sides fits-no-tag (right-yes o e y))
 
       pub sum-only : {a b : List ℕ} {x y : Bool} → Tried localSide l a x → Tried remoteSide r b y → x ≡ false → y ≡ false
-          → {o : List ℕ} → o ≡ sum → judgedBy w p m l g r out ≡ (0x82, o)
+          → {o : List ℕ} → o ≡ sum → judgedBy w p ctx l g r out ≡ (0x82, o)
       sum-only {a} {b} e d nx ny eo =
           answer out (cases.doubtful-tag (length l) S lawful T t sector fits-sides fits-no-tag (left-no a e nx) (right-no b d ny))
           ∙ ap (λ (Q : List ℕ). (0x82, Q)) (sym (eo ∙ sum-is sum (f .is-sum)))
 
     -- ---- it does not
 
-    module _ (f : SumFails w p m l g r) {a b : List ℕ} {x y : Bool} (left : Tried localSide l a x) (right : Tried remoteSide r b y) where
+    module _ (f : SumFails w p ctx l g r) {a b : List ℕ} {x y : Bool} (left : Tried localSide l a x) (right : Tried remoteSide r b y) where
       fails : Fits S T t remote (candidate S T t tag) → ⊥
       unfolding SumFails candidate
       fails z = misfits S T t remote (xorBytes l r) f z
 
-      pub clash-both : x ≡ true → y ≡ true → judgedBy w p m l g r out ≡ (7, out)
+      pub clash-both : x ≡ true → y ≡ true → judgedBy w p ctx l g r out ≡ (7, out)
       clash-both tx ty = answer out (cases.clash-both (length l) S lawful T t sector fails (left-yes a left tx) (right-yes b right ty))
 
-      pub left-only : x ≡ true → y ≡ false → {o : List ℕ} → o ≡ a → judgedBy w p m l g r out ≡ (0x83, o)
+      pub left-only : x ≡ true → y ≡ false → {o : List ℕ} → o ≡ a → judgedBy w p ctx l g r out ≡ (0x83, o)
       left-only tx ny eo =
           answer out (cases.doubtful-remote (length l) S lawful T t sector fails (left-yes a left tx) (right-no b right ny))
           ∙ ap (λ (Q : List ℕ). (0x83, Q)) (sym (eo ∙ left-is a left))
 
-      pub right-only : x ≡ false → y ≡ true → {o : List ℕ} → o ≡ b → judgedBy w p m l g r out ≡ (0x81, o)
+      pub right-only : x ≡ false → y ≡ true → {o : List ℕ} → o ≡ b → judgedBy w p ctx l g r out ≡ (0x81, o)
       right-only nx ty eo =
           answer out (cases.doubtful-local (length l) S lawful T t sector fails (left-no a left nx) (right-yes b right ty))
           ∙ ap (λ (Q : List ℕ). (0x81, Q)) (sym (eo ∙ right-is b right))
 
-      pub none-fits : x ≡ false → y ≡ false → judgedBy w p m l g r out ≡ (6, out)
+      pub none-fits : x ≡ false → y ≡ false → judgedBy w p ctx l g r out ≡ (6, out)
       none-fits nx ny = answer out (cases.is-lost (length l) S lawful T t sector fails (left-no a left nx) (right-no b right ny))

@@ -18,7 +18,7 @@ use Rattle.mode.specs.Transforms.{transformed}
 use Rattle.mode.proofs.Laws.{tag-lt, dcm-lawful}
 use Rattle.mode.specs.Prepared.{schemeOf}
 use Rattle.verdict.specs.Judging.{sealingOf}
-use Rattle.verdict.specs.Verdict.{Side, localSide, remoteSide, placeOf, otherSide, openSide, opened, Opens}
+use Rattle.verdict.specs.Verdict.{Side, localSide, remoteSide, placeOf, otherSide, openSide, opened, FitsBoth}
 use Rattle.verdict.proofs.OpenExact.{open-plain, opens-one, opened-some, opened-none}
 use Rattle.verdict.proofs.Sides.{tag-loaded}
 
@@ -43,7 +43,7 @@ module _ (w p : List ℕ) (T : ℕ) (d : Side) (x g : List ℕ) (known : Side-kn
   plain-g = record { long = known .tag-size; bytes = known .bytes-g }
 
   -- what is found has the tag, so it fits the side too
-  fitting : (o : List ℕ) → o ≡ openSide S d g x → g ≡ S .sealed T o .tag → Opens S T d g x o
+  fitting : (o : List ℕ) → o ≡ openSide S d g x → g ≡ S .sealed T o .tag → FitsBoth S T d g x o
   fitting o e f = record { fits-tag = f; fits-side = side d e }
     where
       side : (d : Side) → o ≡ openSide S d g x → x ≡ on (S .sealed T o) (placeOf d)

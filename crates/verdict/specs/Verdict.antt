@@ -115,7 +115,7 @@ opened S T d g x =
     let P : List ℕ = openSide S d g x in cond (same g (S .sealed T P .tag) && same x (on (S .sealed T P) (placeOf d))) (some P) none
 
 -- P fits the tag g and the sector x
-pub record Opens (S : Scheme) (T : ℕ) (d : Side) (g x P : List ℕ) : Type 0 where
+pub record FitsBoth (S : Scheme) (T : ℕ) (d : Side) (g x P : List ℕ) : Type 0 where
   pub fits-tag : g ≡ S .sealed T P .tag
   pub fits-side : x ≡ on (S .sealed T P) (placeOf d)
 
@@ -128,4 +128,4 @@ JudgeExact s S = (T : ℕ) (t : Triple) → Sector s t → (w : Verdict) → (ju
 -- opening accepts exactly the sealed sectors and tags, and gives the plaintext
 abbrev pub OpenExact : ℕ → Scheme → Type 0
 OpenExact s S =
-    (T : ℕ) (d : Side) (g x : List ℕ) → Plain 16 g → Plain s x → (P : List ℕ) → (opened S T d g x ≡ some P) ↔ (Plain s P × Opens S T d g x P)
+    (T : ℕ) (d : Side) (g x : List ℕ) → Plain 16 g → Plain s x → (P : List ℕ) → (opened S T d g x ≡ some P) ↔ (Plain s P × FitsBoth S T d g x P)

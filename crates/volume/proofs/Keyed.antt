@@ -1,12 +1,12 @@
 -- What is worked out with a prepared key is what the mirror has under that key and number. Assumes nothing.
-use mathlib.Core.Path.{_≡_, refl, sym, ap₂, _∙_}
+use mathlib.Core.Path.{_≡_, refl, sym, _∙_}
 use mathlib.Core.List.{List}
 use Prim.Native.Nat.{ℕ}
 use Rattle.block.specs.declared.Block.{Block}
 use Rattle.mode.specs.Prepared.{PreparedFor, schemeOf}
-use Rattle.mode.specs.Scheme.{Place, Scheme, dcm, scheme}
+use Rattle.mode.specs.Scheme.{Place, dcm, scheme}
 use Rattle.mode.specs.Sealing.{Key, Triple, tweak, sealed}
-use Rattle.mode.proofs.Preparing.{scheme-is}
+use Rattle.mode.proofs.Preparing.{keyed}
 use Rattle.verdict.specs.Judging.{verdictOutcome}
 use Rattle.verdict.specs.Verdict.{fits, fitsTwo, candidate, grade, judge}
 use Rattle.history.specs.Volume.{Call, blank, first, second, third, mend, read, mirror}
@@ -25,19 +25,15 @@ late-mirror K s i v (read o) = refl
 
 -- what is prepared of the key K, and the tweak T of the number i
 module _ {K : Key} {t w p : List ℕ} {alpha beta : Block} (e : PreparedFor K t w p alpha beta) {T : ℕ} (i : ℕ) (eT : T ≡ tweak i) where
-  -- a function of the scheme and the tweak
-  moved : {A : Type 0} (f : Scheme → ℕ → A) → f (schemeOf w p) T ≡ f (scheme K) (tweak i)
-  moved f = ap₂ f (scheme-is e) eT
-
   pub late-keyed : (s : ℕ) (v : Triple) (c : Call) {x : ℕ × Triple} → lateOutcome (schemeOf w p) T s i v c ≡ x → lateOutcome (mirror K) i s i v c ≡ x
-  late-keyed s v c x = sym (moved (λ S U. lateOutcome S U s i v c) ∙ late-mirror K s i v c) ∙ x
+  late-keyed s v c x = sym (keyed e eT (λ S U. lateOutcome S U s i v c) ∙ late-mirror K s i v c) ∙ x
 
   pub verdict-keyed : (s : ℕ) (l g r out : List ℕ) {o : ℕ × List ℕ}
       → verdictOutcome (judge (schemeOf w p) T (placesOf s i l g r)) out ≡ o → verdictOutcome (judge (mirror K) i (placesOf s i l g r)) out ≡ o
   unfolding judge grade fitsTwo fits candidate mirror sealed scheme dcm
-  verdict-keyed s l g r out y = sym (moved (λ S U. verdictOutcome (judge S U (placesOf s i l g r)) out)) ∙ y
+  verdict-keyed s l g r out y = sym (keyed e eT (λ S U. verdictOutcome (judge S U (placesOf s i l g r)) out)) ∙ y
 
   pub seals-keyed : (s : ℕ) (P : List ℕ) (places : List Place) (v : Triple) {x : Triple}
       → x ≡ sealInto (schemeOf w p) T s i P places v → x ≡ sealInto (mirror K) i s i P places v
   unfolding sealInto mirror sealed scheme dcm
-  seals-keyed s P places v x = x ∙ moved (λ S U. sealInto S U s i P places v)
+  seals-keyed s P places v x = x ∙ keyed e eT (λ S U. sealInto S U s i P places v)

@@ -23,10 +23,6 @@ use Rattle.images.specs.Lent.{Within}
 use Rattle.images.proofs.Rooms.{has-room, within-room, within-same}
 use Rattle.stages.specs.Inner.{Scratch, allPlaces, sealInto, lateOutcome}
 
--- s zeros, a part of the 4,096
-zeros-are : (s : ℕ) → s ≤ 4096 → take {A = ℕ} s (replicate 4096 0) ≡ replicate s 0
-zeros-are s h = take-zeros s 4096 h
-
 pub prefix-size : (s x : ℕ) → s ≤ 4096 → length (take {A = ℕ} s (replicate 4096 x)) ≡ s
 prefix-size s x h = simp (length-take, length-replicate) (omega arith)
 
@@ -91,7 +87,7 @@ module _ (k : List ℕ) (s n i : ℕ) (l g r : List ℕ) where
     pub blank-done : {x : Triple} → x ≡ sealInto (mirror (keyFrom k)) i (length zeros) i zeros allPlaces v → outcome mirror v a blank ≡ (0, x)
     unfolding lateOutcome
     blank-done {x} e =
-        let z = zeros-are s blank-size in
+        let z : take {A = ℕ} s (replicate 4096 0) ≡ replicate s 0 = take-zeros s 4096 blank-size in
         let y : Triple = sealInto (mirror (keyFrom k)) i s i (replicate s 0) allPlaces v in
         let same : x ≡ y = e ∙ (λ j. sealInto (mirror (keyFrom k)) i (prefix-size s 0 blank-size j) i (z j) allPlaces v) in
         call-done blank checks q (ap (λ (u : Triple). (0, u)) (sym same))

@@ -2,8 +2,8 @@ use mathlib.Core.List.{_++_}
 use Rattle.answers.specs.Rules.{sizeRules, lengthRules}
 use Rattle.answers.proofs.Rules.{first-both}
 use borrow.Author.Needs.{needs}
-use Rattle.answers.proofs.check_sides.Statement.{statement}
-use Rattle.answers.proofs.check_sides.Tie as tie
+use Rattle.answers.proofs.check_pair.Statement.{statement}
+use Rattle.answers.proofs.check_pair.Tie as tie
 
 check-size-requires : tie.Need-check-size-requires
 check-size-requires c κs = search needs
@@ -26,5 +26,5 @@ returns c =
     let lengths = first-both (lengthRules (a .y) (a .s)) (lengthRules (a .x) (a .s)) (c .before .before .before .check-length .ensures) (c .before .before .check-length2 .ensures) (c .before .first-refusal .ensures) in
     first-both (lengthRules (a .x) (a .s) ++ lengthRules (a .y) (a .s)) (sizeRules (a .s)) (c .before .before .before .before .check-size .ensures) lengths (c .first-refusal2 .ensures)
 
-pub check-sides-spec : {M : Type 1} → statement M
-check-sides-spec = tie.close (tie.spec check-size-requires check-length-requires check-length-requires-2 first-refusal-requires first-refusal-requires-2 returns)
+pub check-pair-spec : {M : Type 1} → statement M
+check-pair-spec = tie.close (tie.spec check-size-requires check-length-requires check-length-requires-2 first-refusal-requires first-refusal-requires-2 returns)
