@@ -71,27 +71,6 @@ pub fn context_at(masks: Masks, address: u64) -> Context
     }
 }
 
-// The same for a call on one sector, with the context of its address.
-pub struct PreparedAt {
-    pub words: [u32; 44],
-    pub powers: [u64; 18],
-    pub context: Context,
-}
-
-pub fn prepare_at(t: &Table, key: &[u8], address: u64) -> PreparedAt
-    requires { ⌜ (now t ≡ roundTable) × (isKey (keyFrom (now key)) ≡ true) ⌝ }
-    ensures { λ r. ⌜ PreparedFor (keyFrom (now (key .entry))) (now (t .entry)) (r .words) (r .powers) (r .context .alpha) (r .context .beta) × (value (r .context .tweak) ≡ tweak address) ⌝ }
-{
-    let k = prepare(t, key);
-    let words = k.words;
-    let powers = k.powers;
-    PreparedAt {
-        words,
-        powers,
-        context: context_at(k.masks, address),
-    }
-}
-
 // The tag of the plaintext p as a block.
 pub fn tag_block(t: &Table, w: &[u32], powers: &[u64; 18], ctx: Context, p: &[u8]) -> Block
     requires { ⌜ Ready (now t) (now w) (now powers) ctx × (length (now p) ≤ 4096) ⌝ }

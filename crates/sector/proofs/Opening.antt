@@ -6,6 +6,7 @@ use mathlib.Core.Option.{Option, none, some}
 use Prim.Native.Nat.{ℕ}
 use lib.ListN.{length, take, drop}
 use Rattle.block.specs.Bytes.{fromBytes, blocksOf, same}
+use Rattle.block.specs.declared.Block.{Block}
 use Rattle.block.specs.Value.{value}
 use Rattle.fips197.specs.Aes.{cipherNumber}
 use Rattle.mode.specs.declared.Context.{Context}
@@ -29,6 +30,7 @@ use Rattle.sector.specs.declared.Wanted.the-variants.{Plaintext, Opposit
 use Rattle.sector.specs.Calls.{openOutcome}
 use Rattle.sector.specs.Opening.{wantedOf, openedAs, openAs}
 use Rattle.mode.proofs.Preparing.{keyed}
+use Rattle.sector.proofs.Prepared.{ready}
 use Rattle.answers.proofs.Rules.{settle-some, settle-none}
 
 -- ---- the outcome, from what is found
@@ -58,13 +60,14 @@ module _ (w p : List ℕ) (T : ℕ) (d : Side) (x g : List ℕ) (known : Side-kn
 
 -- ---- with a key prepared once
 
-module _ {k : Key} {t w p : List ℕ} (ctx : Context) (address : ℕ) (e : PreparedFor k t w p (ctx .alpha) (ctx .beta) × (value (ctx .tweak) ≡ tweak address)) where
+module _ {k : Key} {t w p : List ℕ} {alpha beta : Block} (ctx : Context) (address : ℕ) (e : PreparedFor k t w p alpha beta)
+    (c : (ctx .alpha ≡ alpha) × (ctx .beta ≡ beta) × (value (ctx .tweak) ≡ tweak address)) where
   pub opening-ready : {s y g z : ℕ} → Sizes s y y g → z ≡ s → Ready t w p ctx × Sizes s y z g
-  opening-ready c ez = (e .0 .ready, record { blocks = c .blocks; most = c .most; first = c .first; second = ez; tag-size = c .tag-size })
+  opening-ready a ez = (ready ctx address e c, record { blocks = a .blocks; most = a .most; first = a .first; second = ez; tag-size = a .tag-size })
 
   pub opened-is : (h : Wanted) (d : Side) (x g out : List ℕ) {a : ℕ × List ℕ}
       → openedAs h (schemeOf w p) (value (ctx .tweak)) d x g out ≡ a → openedAs h (scheme k) (tweak address) d x g out ≡ a
-  opened-is h d x g out ea = sym (keyed (e .0) (e .1) (λ S T. openedAs h S T d x g out)) ∙ ea
+  opened-is h d x g out ea = sym (keyed e (c .2) (λ S T. openedAs h S T d x g out)) ∙ ea
 
 -- ---- with the checks, of which c is the answer
 

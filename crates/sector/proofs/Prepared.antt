@@ -5,30 +5,35 @@ use Prim.Native.Nat.{ℕ, _+_}
 use native.Mathlib.Nat.{le-of-eq}
 use lib.ListN.{length, take, drop, drop-of-length-le}
 use Rattle.block.specs.Bytes.{toBytes}
+use Rattle.block.specs.declared.Block.{Block}
 use Rattle.block.specs.Value.{value}
 use Rattle.fips197.specs.Aes.{cipherNumber}
 use Rattle.hash.specs.Powers.{keyOf}
 use Rattle.mode.specs.declared.Context.{Context}
-use Rattle.mode.specs.Prepared.{PreparedFor, schemeOf}
+use Rattle.mode.specs.Prepared.{Ready, PreparedFor, schemeOf}
 use Rattle.mode.specs.Scheme.{dcm, scheme}
 use Rattle.mode.specs.Sealing.{Key, tweak, tagBlock, sides, sealedBy, sealed, triple}
 use Rattle.answers.specs.Passing.{Sizes}
 use Rattle.verdict.specs.Judging.{verdictOutcome, JudgeReady, judgedBy}
 use Rattle.verdict.specs.Verdict.{judge}
-use Rattle.mode.proofs.Preparing.{keyed}
+use Rattle.mode.proofs.Preparing.{keyed, ready-context}
 
--- the round keys w, the powers p and the context of a key and an address
-module _ {k : Key} {t w p : List ℕ} (ctx : Context) (address : ℕ) (e : PreparedFor k t w p (ctx .alpha) (ctx .beta) × (value (ctx .tweak) ≡ tweak address)) where
-  pub lent-of : (l g x out : List ℕ) → Sizes (length l) (length x) (length out) (length g) → JudgeReady t w p ctx l g x out
-  lent-of l g x out z = record { ready = e .0 .ready; blocks = z .blocks; most = z .most; tag-size = z .tag-size; remote-size = z .first; out-size = z .second }
+-- what is prepared of the key k, and the context of an address
+module _ {k : Key} {t w p : List ℕ} {alpha beta : Block} (ctx : Context) (address : ℕ) (e : PreparedFor k t w p alpha beta)
+    (x : (ctx .alpha ≡ alpha) × (ctx .beta ≡ beta) × (value (ctx .tweak) ≡ tweak address)) where
+  pub ready : Ready t w p ctx
+  ready = ready-context ctx (e .ready) (x .0) (x .1)
 
-  pub judged-is : (l g x out : List ℕ) {a : ℕ × List ℕ} → judgedBy w p ctx l g x out ≡ a → verdictOutcome (judge (scheme k) (tweak address) (triple l g x)) out ≡ a
-  judged-is l g x out ea = sym (keyed (e .0) (e .1) (λ S T. verdictOutcome (judge S T (triple l g x)) out)) ∙ ea
+  pub lent-of : (l g r out : List ℕ) → Sizes (length l) (length r) (length out) (length g) → JudgeReady t w p ctx l g r out
+  lent-of l g r out z = record { ready = ready; blocks = z .blocks; most = z .most; tag-size = z .tag-size; remote-size = z .first; out-size = z .second }
+
+  pub judged-is : (l g r out : List ℕ) {a : ℕ × List ℕ} → judgedBy w p ctx l g r out ≡ a → verdictOutcome (judge (scheme k) (tweak address) (triple l g r)) out ≡ a
+  judged-is l g r out ea = sym (keyed e (x .2) (λ S T. verdictOutcome (judge S T (triple l g r)) out)) ∙ ea
 
   -- sealing with the prepared key
   pub scheme-sealed : (P : List ℕ) → schemeOf w p .sealed (value (ctx .tweak)) P ≡ sealed k address P
   unfolding sealed scheme dcm
-  scheme-sealed P = keyed (e .0) (e .1) (λ S T. S .sealed T P)
+  scheme-sealed P = keyed e (x .2) (λ S T. S .sealed T P)
 
 -- three places that are written make the sealed sector
 pub sealed-is : (w p : List ℕ) (T : ℕ) (P old : List ℕ) → length old ≡ 16 → (g : ℕ) → g ≡ tagBlock (cipherNumber w) (keyOf p) T P

@@ -33,7 +33,8 @@ fn judge_checked(
     ensures { λ r. ⌜ verdictOutcome (W.judge (scheme (keyFrom (now (key .entry)))) (tweak address) (triple (now (local .entry)) (now (tag .entry)) (now (remote .entry)))) (now (out .entry)) ≡ (judgedNumber r, now (out .exit)) ⌝ }
 {
     let t = aes::table();
-    let k = mode::prepare_at(&t, key, address);
+    let k = mode::prepare(&t, key);
+    let ctx = mode::context_at(k.masks, address);
     let s = local.len();
     let mut sum = [0u8; 4096];
     let mut scratch = [0u8; 4096];
@@ -41,7 +42,7 @@ fn judge_checked(
         &t,
         &k.words,
         &k.powers,
-        k.context,
+        ctx,
         local,
         tag,
         remote,
@@ -100,8 +101,9 @@ fn seal_checked(
     ensures { λ _. ⌜ triple (now (local .exit)) (now (tag .exit)) (now (remote .exit)) ≡ sealed (keyFrom (now (key .entry))) address (now (p .entry)) ⌝ }
 {
     let t = aes::table();
-    let k = mode::prepare_at(&t, key, address);
-    seal_in(&t, &k.words, &k.powers, k.context, p, local, remote, tag);
+    let k = mode::prepare(&t, key);
+    let ctx = mode::context_at(k.masks, address);
+    seal_in(&t, &k.words, &k.powers, ctx, p, local, remote, tag);
 }
 
 // Seals the plaintext p: writes the local sector, the remote sector and the tag.
@@ -200,14 +202,15 @@ fn open_checked(
     ensures { λ r. ⌜ openedAs wanted (scheme (keyFrom (now (key .entry)))) (tweak address) (sideNamed side) (now (x .entry)) (now (tag .entry)) (now (out .entry)) ≡ (doneNumber r, now (out .exit)) ⌝ }
 {
     let t = aes::table();
-    let k = mode::prepare_at(&t, key, address);
+    let k = mode::prepare(&t, key);
+    let ctx = mode::context_at(k.masks, address);
     let s = x.len();
     let mut scratch = [0u8; 4096];
     open_in(
         &t,
         &k.words,
         &k.powers,
-        k.context,
+        ctx,
         wanted,
         side,
         x,

@@ -29,14 +29,15 @@ fn read_checked(
     ensures { λ r. ⌜ verdictOutcome (judge (mirror (keyFrom (now (key .entry)))) i (placesOf s i (now (local .entry)) (now (tags .entry)) (now (remote .entry)))) (now (out .entry)) ≡ (judgedNumber r, now (out .exit)) ⌝ }
 {
     let t = aes::table();
-    let k = mode::prepare_at(&t, key, i as u64);
+    let k = mode::prepare(&t, key);
+    let ctx = mode::context_at(k.masks, i as u64);
     let mut sum = [0u8; 4096];
     let mut scratch = [0u8; 4096];
     images::judge_part(
         &t,
         &k.words,
         &k.powers,
-        k.context,
+        ctx,
         s,
         i,
         local,
@@ -60,7 +61,8 @@ fn first_checked(
     ensures { λ r. ⌜ lateOutcome (mirror (keyFrom (now (key .entry)))) i (length (now (p .entry))) i (triple (now (local .entry)) (now (tags .entry)) (now (remote .entry))) (W.first (now (p .entry))) ≡ (doneNumber r, triple (now (local .exit)) (now (tags .entry)) (now (remote .entry))) ⌝ }
 {
     let t = aes::table();
-    let k = mode::prepare_at(&t, key, i as u64);
+    let k = mode::prepare(&t, key);
+    let ctx = mode::context_at(k.masks, i as u64);
     let s = p.len();
     let mut plain = [0u8; 4096];
     let mut sum = [0u8; 4096];
@@ -69,7 +71,7 @@ fn first_checked(
         &t,
         &k.words,
         &k.powers,
-        k.context,
+        ctx,
         p,
         i,
         local,
@@ -93,14 +95,15 @@ fn second_checked(
     ensures { λ r. ⌜ lateOutcome (mirror (keyFrom (now (key .entry)))) i (length (now (p .entry))) i (triple (now (local .entry)) (now (tags .entry)) (now (remote .entry))) (W.second (now (p .entry))) ≡ (doneNumber r, triple (now (local .entry)) (now (tags .exit)) (now (remote .entry))) ⌝ }
 {
     let t = aes::table();
-    let k = mode::prepare_at(&t, key, i as u64);
+    let k = mode::prepare(&t, key);
+    let ctx = mode::context_at(k.masks, i as u64);
     let s = p.len();
     let mut scratch = [0u8; 4096];
     stages::second_in(
         &t,
         &k.words,
         &k.powers,
-        k.context,
+        ctx,
         p,
         i,
         local,
@@ -122,14 +125,15 @@ fn third_checked(
     ensures { λ r. ⌜ lateOutcome (mirror (keyFrom (now (key .entry)))) i (length (now (p .entry))) i (triple (now (local .entry)) (now (tags .entry)) (now (remote .entry))) (W.third (now (p .entry))) ≡ (doneNumber r, triple (now (local .entry)) (now (tags .entry)) (now (remote .exit))) ⌝ }
 {
     let t = aes::table();
-    let k = mode::prepare_at(&t, key, i as u64);
+    let k = mode::prepare(&t, key);
+    let ctx = mode::context_at(k.masks, i as u64);
     let s = p.len();
     let mut scratch = [0u8; 4096];
     stages::third_in(
         &t,
         &k.words,
         &k.powers,
-        k.context,
+        ctx,
         p,
         i,
         local,
@@ -151,18 +155,9 @@ fn blank_checked(
     ensures { λ _. ⌜ triple (now (local .exit)) (now (tags .exit)) (now (remote .exit)) ≡ sealInto (mirror (keyFrom (now (key .entry)))) i (length (now (p .entry))) i (now (p .entry)) allPlaces (triple (now (local .entry)) (now (tags .entry)) (now (remote .entry))) ⌝ }
 {
     let t = aes::table();
-    let k = mode::prepare_at(&t, key, i as u64);
-    stages::write_all(
-        &t,
-        &k.words,
-        &k.powers,
-        k.context,
-        p,
-        i,
-        local,
-        tags,
-        remote,
-    );
+    let k = mode::prepare(&t, key);
+    let ctx = mode::context_at(k.masks, i as u64);
+    stages::write_all(&t, &k.words, &k.powers, ctx, p, i, local, tags, remote);
 }
 
 fn mend_checked(
@@ -177,7 +172,8 @@ fn mend_checked(
     ensures { λ r. ⌜ lateOutcome (mirror (keyFrom (now (key .entry)))) i s i (triple (now (local .entry)) (now (tags .entry)) (now (remote .entry))) W.mend ≡ (judgedNumber r, triple (now (local .exit)) (now (tags .exit)) (now (remote .exit))) ⌝ }
 {
     let t = aes::table();
-    let k = mode::prepare_at(&t, key, i as u64);
+    let k = mode::prepare(&t, key);
+    let ctx = mode::context_at(k.masks, i as u64);
     let mut plain = [0u8; 4096];
     let mut sum = [0u8; 4096];
     let mut scratch = [0u8; 4096];
@@ -185,7 +181,7 @@ fn mend_checked(
         &t,
         &k.words,
         &k.powers,
-        k.context,
+        ctx,
         s,
         i,
         local,

@@ -1,3 +1,4 @@
+use Rattle.mode.proofs.Preparing.{ready-context}
 use Rattle.volume.proofs.Keyed.{seals-keyed}
 use borrow.Author.Needs.{needs}
 use Rattle.volume.proofs.blank_checked.Statement.{statement}
@@ -6,11 +7,14 @@ use Rattle.volume.proofs.blank_checked.Tie as tie
 table-requires : tie.Need-table-requires
 table-requires c κs = search needs
 
-prepare-at-requires : tie.Need-prepare-at-requires
-prepare-at-requires c κs = search needs
+prepare-requires : tie.Need-prepare-requires
+prepare-requires c κs = search needs
+
+context-at-requires : tie.Need-context-at-requires
+context-at-requires c κs = search needs
 
 write-all-requires : tie.Need-write-all-requires
-write-all-requires c κs = search needs
+write-all-requires c κs = search (needs, ready-context)
 
 same-length : tie.Need-same-length
 same-length c = search needs
@@ -29,7 +33,8 @@ blank-checked-spec =
     tie.close
     (tie.spec
     table-requires
-    prepare-at-requires
+    prepare-requires
+    context-at-requires
     write-all-requires
     same-length
     same-length-2

@@ -1,3 +1,4 @@
+use Rattle.mode.proofs.Preparing.{ready-context}
 use Rattle.volume.proofs.Keyed.{verdict-keyed}
 use Rattle.volume.proofs.Public.{prefix-size}
 use borrow.Author.Needs.{needs}
@@ -7,23 +8,31 @@ use Rattle.volume.proofs.read_checked.Tie as tie
 table-requires : tie.Need-table-requires
 table-requires c κs = search needs
 
-prepare-at-requires : tie.Need-prepare-at-requires
-prepare-at-requires c κs = search needs
+prepare-requires : tie.Need-prepare-requires
+prepare-requires c κs = search needs
+
+context-at-requires : tie.Need-context-at-requires
+context-at-requires c κs = search needs
 
 array-borrow-prefix-sum : tie.Need-array-borrow-prefix-sum
-array-borrow-prefix-sum c = search needs
+array-borrow-prefix-sum c = let p = c .before .before .before .before .before .before .before .before .before .before .before .before .before .before .before .before .pre in search needs
 
 slice-aggregate-judge-part : tie.Need-slice-aggregate-judge-part
-slice-aggregate-judge-part c = search (needs, prefix-size)
+slice-aggregate-judge-part c = let p = c .before .before .before .before .before .before .before .before .before .before .before .before .before .before .before .before .before .pre in search (needs, prefix-size)
 
 array-borrow-prefix-scratch : tie.Need-array-borrow-prefix-scratch
-array-borrow-prefix-scratch c = search needs
+array-borrow-prefix-scratch c = let p = c .before .before .before .before .before .before .before .before .before .before .before .before .before .before .before .before .before .pre in search needs
 
 slice-aggregate-judge-part-2 : tie.Need-slice-aggregate-judge-part-2
-slice-aggregate-judge-part-2 c = search (needs, prefix-size)
+slice-aggregate-judge-part-2 c = let p = c .before .before .before .before .before .before .before .before .before .before .before .before .before .before .before .before .before .before .pre in search (needs, prefix-size)
 
 judge-part-requires : tie.Need-judge-part-requires
-judge-part-requires c κs = search (needs, prefix-size)
+judge-part-requires c κs =
+    let p = c .before .before .before .before .before .before .before .before .before .before .before .before .before .before .before .before .before .before .pre in
+    let k = c .before .before .before .before .before .before .before .before .before .before .prepare .ensures in
+    let q = c .before .before .before .before .before .before .before .before .context-at in
+    let x = q .ensures in
+    (ready-context (q .result) (k .ready) (x .0) (x .1), p .1, p .2, prefix-size _ _ (p .1 .most), prefix-size _ _ (p .1 .most))
 
 same-length : tie.Need-same-length
 same-length c = search needs
@@ -36,7 +45,8 @@ read-checked-spec =
     tie.close
     (tie.spec
     table-requires
-    prepare-at-requires
+    prepare-requires
+    context-at-requires
     array-borrow-prefix-sum
     slice-aggregate-judge-part
     array-borrow-prefix-scratch
