@@ -3,7 +3,7 @@
 //!
 //! `cargo run --example mend`
 
-use mirror::{judge, Refusal, Volume, KEY_BYTES, TAG_BYTES};
+use mirror::{Refusal, Volume, KEY_BYTES, TAG_BYTES};
 
 const SIZE: usize = 64;
 const COUNT: usize = 4;
@@ -13,14 +13,9 @@ pub fn main() -> Result<(), Refusal> {
     for (byte, value) in key.iter_mut().zip(1..) {
         *byte = value;
     }
-    let mut volume = Volume {
-        key: &key,
-        size: SIZE,
-        count: COUNT,
-        local: &mut [0; SIZE * COUNT],
-        tags: &mut [0; TAG_BYTES * COUNT],
-        remote: &mut [0; SIZE * COUNT],
-    };
+    let local = vec![0; COUNT * SIZE];
+    let (tags, remote) = (vec![0; COUNT * TAG_BYTES], local.clone());
+    let mut volume = Volume::new(&key, SIZE, COUNT, local, tags, remote);
     show(&volume, "a new volume")?;
     for number in 0..COUNT {
         volume.blank(number)?;
@@ -32,31 +27,24 @@ pub fn main() -> Result<(), Refusal> {
 }
 
 /// Writes a text to a sector: three stages with one plaintext. This volume is in
-/// memory only; on a medium, what a stage wrote is written out and flushed before
-/// the next call.
-fn write(volume: &mut Volume, number: usize, text: &[u8]) -> Result<(), Refusal> {
+/// memory only; on a medium, the part that is named behind a stage is written
+/// out and flushed before the next call.
+fn write(volume: &mut Volume<Vec<u8>>, number: usize, text: &[u8]) -> Result<(), Refusal> {
     let mut plaintext = [0; SIZE];
     plaintext[..text.len()].copy_from_slice(text);
-    volume.first_stage(number, &plaintext)?;
+    volume.first_stage(number, &plaintext)?; // volume.local_part(number)
     show(volume, "first stage done")?;
-    volume.second_stage(number, &plaintext)?;
+    volume.second_stage(number, &plaintext)?; // volume.tag_part(number), in one write
     show(volume, "second stage done")?;
-    volume.third_stage(number, &plaintext)?;
+    volume.third_stage(number, &plaintext)?; // volume.remote_part(number)
     show(volume, "third stage done")
 }
 
 /// Changes a byte of sector 2's local place, and mends it.
-fn damage_and_mend(volume: &mut Volume) -> Result<(), Refusal> {
-    volume.local[2 * SIZE + 9] ^= 0xff;
+fn damage_and_mend(volume: &mut Volume<Vec<u8>>) -> Result<(), Refusal> {
+    volume.local_mut()[2 * SIZE + 9] ^= 0xff;
     let mut plaintext = [0; SIZE];
-    let verdict = judge(
-        volume.key,
-        2,
-        &volume.local[2 * SIZE..3 * SIZE],
-        &volume.tags[2 * TAG_BYTES..3 * TAG_BYTES],
-        &volume.remote[2 * SIZE..3 * SIZE],
-        &mut plaintext,
-    )?;
+    let verdict = volume.read(2, &mut plaintext)?;
     let text = String::from_utf8_lossy(&plaintext);
     println!(
         "sector 2 is {verdict} and gives {:?}",
@@ -68,9 +56,9 @@ fn damage_and_mend(volume: &mut Volume) -> Result<(), Refusal> {
 }
 
 /// Damages two places of sector 3: no call can tell what it held.
-fn lose(volume: &mut Volume) -> Result<(), Refusal> {
-    volume.local[3 * SIZE] ^= 1;
-    volume.tags[3 * TAG_BYTES] ^= 1;
+fn lose(volume: &mut Volume<Vec<u8>>) -> Result<(), Refusal> {
+    volume.local_mut()[3 * SIZE] ^= 1;
+    volume.tags_mut()[3 * TAG_BYTES] ^= 1;
     show(volume, "two places of sector 3 damaged")?;
     match volume.mend(3) {
         Ok(verdict) => println!("mending sector 3, which was {verdict}"),
@@ -81,7 +69,7 @@ fn lose(volume: &mut Volume) -> Result<(), Refusal> {
 }
 
 /// Prints a survey.
-fn show(volume: &Volume, when: &str) -> Result<(), Refusal> {
+fn show(volume: &Volume<Vec<u8>>, when: &str) -> Result<(), Refusal> {
     let mut list = [0; COUNT];
     let (survey, not_whole) = volume.survey(&mut list)?;
     println!(

@@ -1,7 +1,7 @@
 //! What a call can answer, and the library's number for it.
 
-use std::error::Error;
-use std::fmt;
+use core::error::Error;
+use core::fmt;
 
 /// One of the three places of a sector.
 #[derive(Clone, Copy, Debug, PartialEq, Eq, Hash)]

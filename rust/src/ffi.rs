@@ -1,8 +1,9 @@
 //! The library's functions as `include/mirror.h` declares them.
 //!
-//! Each is unsafe, and gives the number of its answer: 0, hexadecimal 81, 82 or
-//! 83, or a refusal from 1 to 11. The functions at the root of this crate are
-//! the same calls on slices, and safe.
+//! Each call is unsafe, and gives the number of its answer: 0, hexadecimal 81, 82
+//! or 83, or a refusal from 1 to 11. Places come in the order local, tag, remote.
+//! The functions at the root of this crate and the methods of
+//! [`Volume`](crate::Volume) are the same calls on slices, and safe.
 //!
 //! # Safety
 //!
@@ -17,7 +18,10 @@
 //! Nothing else is asked: any lengths, numbers and bytes are safe.
 
 extern "C" {
-    /// Seals a plaintext. Mind the order: local, remote, tag.
+    /// The library's release: major × 1,000,000 + minor × 1,000 + patch.
+    pub fn mirror_version() -> u32;
+
+    /// Seals a plaintext.
     pub fn mirror_seal(
         key: *const u8,
         key_len: usize,
@@ -26,13 +30,13 @@ extern "C" {
         plain_len: usize,
         local: *mut u8,
         local_len: usize,
-        remote: *mut u8,
-        remote_len: usize,
         tag: *mut u8,
         tag_len: usize,
+        remote: *mut u8,
+        remote_len: usize,
     ) -> u32;
 
-    /// Judges a sector. Mind the order: local, tag, remote.
+    /// Judges a sector.
     pub fn mirror_judge(
         key: *const u8,
         key_len: usize,

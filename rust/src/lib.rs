@@ -28,8 +28,8 @@
 //!
 //! let key = [7; mirror::KEY_BYTES];
 //! let (address, plaintext) = (5, [42; 512]);
-//! let (mut local, mut remote, mut tag) = ([0; 512], [0; 512], [0; 16]);
-//! seal(&key, address, &plaintext, &mut local, &mut remote, &mut tag)?;
+//! let (mut local, mut tag, mut remote) = ([0; 512], [0; 16], [0; 512]);
+//! seal(&key, address, &plaintext, &mut local, &mut tag, &mut remote)?;
 //!
 //! local[100] ^= 1;
 //! let mut output = [0; 512];
@@ -45,32 +45,36 @@
 //! # A volume
 //!
 //! A write is three stages with one plaintext, and what each wrote is on the
-//! medium before the next begins ([Power cuts](#power-cuts)). [`Volume`] saves
-//! the repeated arguments; each method is also a function.
+//! medium before the next begins ([Power cuts](#power-cuts)). The images of a
+//! [`Volume`] are lent or owned. Here `write_out` stands for what writes a part to
+//! the medium and flushes it.
 //!
 //! ```
-//! use mirror::{Place, Refusal, Verdict, Volume};
+//! use mirror::{Place, Refusal, Verdict, Volume, KEY_BYTES, TAG_BYTES};
 //!
-//! let (size, count) = (512, 4);
-//! let mut volume = Volume {
-//!     key: &[7; mirror::KEY_BYTES],
-//!     size,
-//!     count,
-//!     local: &mut vec![0; size * count],
-//!     tags: &mut vec![0; mirror::TAG_BYTES * count],
-//!     remote: &mut vec![0; size * count],
-//! };
+//! let (key, size, count) = ([7; KEY_BYTES], 512, 4);
+//! let local = vec![0; count * size];
+//! let (tags, remote) = (vec![0; count * TAG_BYTES], local.clone());
+//! let mut volume = Volume::new(&key, size, count, local, tags, remote);
+//! # let write_out = |part: Option<&[u8]>| assert!(part.is_some());
 //! for number in 0..count {
 //!     volume.blank(number)?;
+//!     write_out(volume.local_part(number));
+//!     write_out(volume.tag_part(number));
+//!     write_out(volume.remote_part(number));
 //! }
 //!
 //! let plaintext = [42; 512];
-//! volume.first_stage(2, &plaintext)?; // now write out the local sector, and flush
-//! volume.second_stage(2, &plaintext)?; // the tag
-//! volume.third_stage(2, &plaintext)?; // the remote sector
+//! volume.first_stage(2, &plaintext)?;
+//! write_out(volume.local_part(2)); // go on only if that succeeded
+//! volume.second_stage(2, &plaintext)?;
+//! write_out(volume.tag_part(2)); // in one write that the medium does whole
+//! volume.third_stage(2, &plaintext)?;
+//! write_out(volume.remote_part(2));
 //!
-//! volume.remote[2 * size] ^= 1;
+//! volume.remote_mut()[2 * size] ^= 1;
 //! assert_eq!(volume.mend(2)?, Verdict::Doubtful(Place::Remote));
+//! write_out(volume.remote_part(2));
 //!
 //! let mut output = [0; 512];
 //! assert_eq!(volume.read(2, &mut output)?, Verdict::Whole);
@@ -134,23 +138,30 @@
 //!
 //! A call keeps no state, allocates nothing and uses less than 20 KiB of stack
 //! (measured, not proved). It may be made from any thread. A call that writes
-//! borrows a whole image, so on one volume only reads and surveys run at once.
+//! borrows the whole volume, so on one volume only reads and surveys run at once.
+//!
+//! # The library
+//!
+//! `libmirror.a` is linked from the folder that the variable `MIRROR_LIB_DIR`
+//! names. If that is not set, it is taken from `target/staticlib` of the
+//! repository, or from where `pkg-config` finds `mirror`. It has to be of the same
+//! release as this crate: compare [`version`], which the library answers, with
+//! [`VERSION`].
 
+#![no_std]
 #![deny(missing_docs)]
 #![deny(clippy::undocumented_unsafe_blocks)]
-// The calls take what the requirement names, one parameter for each.
-#![allow(clippy::too_many_arguments)]
 
 mod answer;
 pub mod ffi;
 mod sector;
+mod version;
 mod volume;
 
 pub use answer::{Place, Refusal, Side, Verdict};
 pub use sector::{combine, judge, open, rebuild, seal};
-pub use volume::{
-    blank, first_stage, mend, read, second_stage, survey, third_stage, Survey, Volume,
-};
+pub use version::{version, VERSION};
+pub use volume::{Survey, Volume};
 
 /// The bytes of a key.
 pub const KEY_BYTES: usize = 32;
@@ -159,10 +170,10 @@ pub const KEY_BYTES: usize = 32;
 pub const TAG_BYTES: usize = 16;
 
 /// The bytes of the smallest sector.
-pub const LEAST_SECTOR: usize = 16;
+pub const SECTOR_BYTES_MIN: usize = 16;
 
 /// The bytes of the largest sector.
-pub const MOST_SECTOR: usize = 4096;
+pub const SECTOR_BYTES_MAX: usize = 4096;
 
 /// The sectors of the largest volume.
-pub const MOST_SECTORS: usize = 65_536;
+pub const VOLUME_SECTORS_MAX: usize = 65_536;

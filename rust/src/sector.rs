@@ -3,8 +3,8 @@
 use crate::answer::{done, judged};
 use crate::{ffi, Refusal, Side, Verdict};
 
-/// Seals the plaintext under key and address: writes the local sector, the
-/// remote sector and the tag.
+/// Seals the plaintext under key and address: writes the local sector, the tag
+/// and the remote sector.
 ///
 /// # Errors
 ///
@@ -16,8 +16,8 @@ pub fn seal(
     address: u64,
     plaintext: &[u8],
     local: &mut [u8],
-    remote: &mut [u8],
     tag: &mut [u8],
+    remote: &mut [u8],
 ) -> Result<(), Refusal> {
     // SAFETY: each pointer and length is that of one slice, which lives through
     // the call; those that are written are borrowed alone, so none overlaps.
@@ -30,10 +30,10 @@ pub fn seal(
             plaintext.len(),
             local.as_mut_ptr(),
             local.len(),
-            remote.as_mut_ptr(),
-            remote.len(),
             tag.as_mut_ptr(),
             tag.len(),
+            remote.as_mut_ptr(),
+            remote.len(),
         )
     })
 }

@@ -1,246 +1,406 @@
-//! The calls on a volume.
+//! A volume, and the calls on it.
+
+use core::fmt;
 
 use crate::answer::{done, judged};
-use crate::{ffi, Refusal, Verdict};
+use crate::{ffi, Refusal, Verdict, TAG_BYTES};
 
-/// Blanks one sector: seals zeros into its part of all three images, whatever
-/// was there. Each sector of a new volume is blanked before its first write. A
-/// cut leaves anything in the sector: blank it again.
+/// A volume: its key, its shape and its three images.
 ///
-/// # Errors
+/// The images are lent or owned, and all of one type: `&mut [u8]`, `Vec<u8>` or
+/// any other that gives its bytes by [`AsRef`] and [`AsMut`]. To read and survey,
+/// [`AsRef`] is enough, as `&[u8]` has it.
 ///
-/// In this order: [`KeyLength`](Refusal::KeyLength);
-/// [`SectorSize`](Refusal::SectorSize); [`VolumeShape`](Refusal::VolumeShape);
-/// [`SectorNumber`](Refusal::SectorNumber).
-pub fn blank(
-    key: &[u8],
+/// The images are private memory, not a shared mapping of the medium, and the
+/// caller writes out what a call changed. A call is finished only once that is
+/// on the medium; a power cut before is a cut in that call. Flush before the next
+/// call on the volume, and see [power cuts](crate#power-cuts) for what else a
+/// medium has to keep.
+///
+/// ```
+/// use mirror::{Refusal, Volume, KEY_BYTES, TAG_BYTES};
+///
+/// let (key, size, count) = ([7; KEY_BYTES], 512, 4);
+/// let local = vec![0; count * size];
+/// let (tags, remote) = (vec![0; count * TAG_BYTES], local.clone());
+///
+/// let reader = Volume::new(&key, size, count, &local[..], &tags[..], &remote[..]);
+/// assert_eq!(reader.read(0, &mut [0; 512]), Err(Refusal::Lost));
+///
+/// let mut owner = Volume::new(&key, size, count, local, tags, remote);
+/// owner.blank(0)?;
+/// let (local, tags, remote) = owner.into_images();
+/// # Ok::<(), Refusal>(())
+/// ```
+#[derive(Clone)]
+pub struct Volume<'k, I> {
+    key: &'k [u8],
     size: usize,
     count: usize,
-    number: usize,
-    local: &mut [u8],
-    tags: &mut [u8],
-    remote: &mut [u8],
-) -> Result<(), Refusal> {
-    // SAFETY: each pointer and length is that of one slice, which lives through
-    // the call; those that are written are borrowed alone, so none overlaps.
-    done(unsafe {
-        ffi::mirror_blank(
-            key.as_ptr(),
-            key.len(),
-            size,
-            count,
-            number,
-            local.as_mut_ptr(),
-            local.len(),
-            tags.as_mut_ptr(),
-            tags.len(),
-            remote.as_mut_ptr(),
-            remote.len(),
-        )
-    })
+    local: I,
+    tags: I,
+    remote: I,
 }
 
-/// The first stage of a write: writes the plaintext's local sector.
-///
-/// The three stages take one plaintext. What each wrote is on the medium before
-/// the next begins; see [power cuts](crate#power-cuts), also for what a read
-/// gives in between: the old plaintext until the tag is written, then the new
-/// one, or [`Clashing`](Refusal::Clashing) until the write goes on.
-///
-/// # Errors
-///
-/// Those of [`blank`], then in this order:
-/// [`OtherLength`](Refusal::OtherLength) of the plaintext;
-/// [`StageOrder`](Refusal::StageOrder) if the sector is not whole: go by what
-/// [`read`] answers.
-pub fn first_stage(
-    key: &[u8],
-    size: usize,
-    count: usize,
-    number: usize,
-    plaintext: &[u8],
-    local: &mut [u8],
-    tags: &[u8],
-    remote: &[u8],
-) -> Result<(), Refusal> {
-    // SAFETY: as in `blank`.
-    done(unsafe {
-        ffi::mirror_first_stage(
-            key.as_ptr(),
-            key.len(),
-            size,
-            count,
-            number,
-            plaintext.as_ptr(),
-            plaintext.len(),
-            local.as_mut_ptr(),
-            local.len(),
-            tags.as_ptr(),
-            tags.len(),
-            remote.as_ptr(),
-            remote.len(),
-        )
-    })
+/// The shape alone: the key is a secret, and local and remote image together
+/// give the plaintexts.
+impl<I> fmt::Debug for Volume<'_, I> {
+    fn fmt(&self, f: &mut fmt::Formatter<'_>) -> fmt::Result {
+        f.debug_struct("Volume")
+            .field("size", &self.size)
+            .field("count", &self.count)
+            .finish_non_exhaustive()
+    }
 }
 
-/// The second stage of a write: writes the plaintext's tag.
-///
-/// It is accepted after the first stage with this plaintext also where a read
-/// refuses [`Clashing`](Refusal::Clashing).
-///
-/// # Errors
-///
-/// Those of [`blank`], then in this order:
-/// [`OtherLength`](Refusal::OtherLength) of the plaintext;
-/// [`StageOrder`](Refusal::StageOrder) if the plaintext does not fit the local
-/// sector.
-pub fn second_stage(
-    key: &[u8],
-    size: usize,
-    count: usize,
-    number: usize,
-    plaintext: &[u8],
-    local: &[u8],
-    tags: &mut [u8],
-    remote: &[u8],
-) -> Result<(), Refusal> {
-    // SAFETY: as in `blank`.
-    done(unsafe {
-        ffi::mirror_second_stage(
-            key.as_ptr(),
-            key.len(),
+impl<'k, I> Volume<'k, I> {
+    /// A volume of `count` sectors of `size` bytes, under a key of 32 bytes. The
+    /// local and the remote image have `count` times `size` bytes, the tag image
+    /// `count` times 16.
+    ///
+    /// Nothing is checked or written here: every call checks for itself, and
+    /// refuses what is wrong.
+    pub const fn new(
+        key: &'k [u8],
+        size: usize,
+        count: usize,
+        local: I,
+        tags: I,
+        remote: I,
+    ) -> Self {
+        Volume {
+            key,
             size,
             count,
-            number,
-            plaintext.as_ptr(),
-            plaintext.len(),
-            local.as_ptr(),
-            local.len(),
-            tags.as_mut_ptr(),
-            tags.len(),
-            remote.as_ptr(),
-            remote.len(),
-        )
-    })
+            local,
+            tags,
+            remote,
+        }
+    }
+
+    /// The bytes of a sector.
+    pub const fn size(&self) -> usize {
+        self.size
+    }
+
+    /// How many sectors there are.
+    pub const fn count(&self) -> usize {
+        self.count
+    }
+
+    /// Gives the images back: local, tags, remote.
+    pub fn into_images(self) -> (I, I, I) {
+        (self.local, self.tags, self.remote)
+    }
+
+    /// The sector's part of an image with `bytes` for each sector.
+    fn part<'i>(&self, image: &'i [u8], number: usize, bytes: usize) -> Option<&'i [u8]> {
+        if number >= self.count {
+            return None;
+        }
+        let start = number.checked_mul(bytes)?;
+        image.get(start..start.checked_add(bytes)?)
+    }
 }
 
-/// The third stage of a write: writes the plaintext's remote sector.
-///
-/// It is accepted after the second stage with this plaintext also where a read
-/// refuses [`Clashing`](Refusal::Clashing), and ends the clash.
-///
-/// # Errors
-///
-/// Those of [`blank`], then in this order:
-/// [`OtherLength`](Refusal::OtherLength) of the plaintext;
-/// [`StageOrder`](Refusal::StageOrder) if the plaintext does not fit both the
-/// local sector and the tag.
-pub fn third_stage(
-    key: &[u8],
-    size: usize,
-    count: usize,
-    number: usize,
-    plaintext: &[u8],
-    local: &[u8],
-    tags: &[u8],
-    remote: &mut [u8],
-) -> Result<(), Refusal> {
-    // SAFETY: as in `blank`.
-    done(unsafe {
-        ffi::mirror_third_stage(
-            key.as_ptr(),
-            key.len(),
-            size,
-            count,
-            number,
-            plaintext.as_ptr(),
-            plaintext.len(),
-            local.as_ptr(),
-            local.len(),
-            tags.as_ptr(),
-            tags.len(),
-            remote.as_mut_ptr(),
-            remote.len(),
-        )
-    })
+impl<I: AsRef<[u8]>> Volume<'_, I> {
+    /// The local image.
+    pub fn local(&self) -> &[u8] {
+        self.local.as_ref()
+    }
+
+    /// The tag image.
+    pub fn tags(&self) -> &[u8] {
+        self.tags.as_ref()
+    }
+
+    /// The remote image.
+    pub fn remote(&self) -> &[u8] {
+        self.remote.as_ref()
+    }
+
+    /// One sector's part of the local image, which is to be written out after
+    /// the first stage. None if the number is not below the count, or the image
+    /// is too short for that part.
+    pub fn local_part(&self, number: usize) -> Option<&[u8]> {
+        self.part(self.local(), number, self.size)
+    }
+
+    /// One sector's tag, which is to be written out after the second stage. None
+    /// as [`local_part`](Self::local_part).
+    pub fn tag_part(&self, number: usize) -> Option<&[u8]> {
+        self.part(self.tags(), number, TAG_BYTES)
+    }
+
+    /// One sector's part of the remote image, which is to be written out after
+    /// the third stage. None as [`local_part`](Self::local_part).
+    pub fn remote_part(&self, number: usize) -> Option<&[u8]> {
+        self.part(self.remote(), number, self.size)
+    }
+
+    /// Reads one sector: judges it and writes its plaintext to the output.
+    ///
+    /// It mends nothing. If the sector is doubtful, [`mend`](Self::mend) it soon:
+    /// damage to a second place can lose it. If it clashes and a write was under
+    /// way, go on with the write's next stage.
+    ///
+    /// # Errors
+    ///
+    /// Those of [`blank`](Self::blank), then in this order:
+    /// [`OtherLength`](Refusal::OtherLength) of the output;
+    /// [`Lost`](Refusal::Lost); [`Clashing`](Refusal::Clashing).
+    pub fn read(&self, number: usize, output: &mut [u8]) -> Result<Verdict, Refusal> {
+        let (local, tags, remote) = (self.local(), self.tags(), self.remote());
+        // SAFETY: as in `blank`.
+        judged(unsafe {
+            ffi::mirror_read(
+                self.key.as_ptr(),
+                self.key.len(),
+                self.size,
+                self.count,
+                number,
+                local.as_ptr(),
+                local.len(),
+                tags.as_ptr(),
+                tags.len(),
+                remote.as_ptr(),
+                remote.len(),
+                output.as_mut_ptr(),
+                output.len(),
+            )
+        })
+    }
+
+    /// Surveys the volume: judges every sector and counts the verdicts.
+    ///
+    /// The number of each sector that is not whole, once each and in rising
+    /// order, is written to the front of the list, which is given back cut to
+    /// these. Entries behind are untouched.
+    ///
+    /// # Errors
+    ///
+    /// In this order: [`KeyLength`](Refusal::KeyLength);
+    /// [`SectorSize`](Refusal::SectorSize);
+    /// [`VolumeShape`](Refusal::VolumeShape);
+    /// [`ListLength`](Refusal::ListLength).
+    pub fn survey<'l>(&self, list: &'l mut [u32]) -> Result<(Survey, &'l [u32]), Refusal> {
+        let (local, tags, remote) = (self.local(), self.tags(), self.remote());
+        let mut counts = [0; 5];
+        // SAFETY: as in `blank`, and the counts live through the call.
+        done(unsafe {
+            ffi::mirror_survey(
+                self.key.as_ptr(),
+                self.key.len(),
+                self.size,
+                self.count,
+                local.as_ptr(),
+                local.len(),
+                tags.as_ptr(),
+                tags.len(),
+                remote.as_ptr(),
+                remote.len(),
+                list.as_mut_ptr(),
+                list.len(),
+                &mut counts,
+            )
+        })?;
+        let survey = Survey::from_counts(counts);
+        Ok((survey, &list[..survey.not_whole()]))
+    }
 }
 
-/// Reads one sector: judges it and writes its plaintext to the output.
-///
-/// It mends nothing. If the sector is doubtful, [`mend`] it soon: damage to a
-/// second place can lose it. If it clashes and a write was under way, go on with
-/// the write's next stage.
-///
-/// # Errors
-///
-/// Those of [`blank`], then in this order:
-/// [`OtherLength`](Refusal::OtherLength) of the output;
-/// [`Lost`](Refusal::Lost); [`Clashing`](Refusal::Clashing).
-pub fn read(
-    key: &[u8],
-    size: usize,
-    count: usize,
-    number: usize,
-    local: &[u8],
-    tags: &[u8],
-    remote: &[u8],
-    output: &mut [u8],
-) -> Result<Verdict, Refusal> {
-    // SAFETY: as in `blank`.
-    judged(unsafe {
-        ffi::mirror_read(
-            key.as_ptr(),
-            key.len(),
-            size,
-            count,
-            number,
-            local.as_ptr(),
-            local.len(),
-            tags.as_ptr(),
-            tags.len(),
-            remote.as_ptr(),
-            remote.len(),
-            output.as_mut_ptr(),
-            output.len(),
-        )
-    })
-}
+impl<I: AsRef<[u8]> + AsMut<[u8]>> Volume<'_, I> {
+    /// The local image, to be loaded from the medium.
+    pub fn local_mut(&mut self) -> &mut [u8] {
+        self.local.as_mut()
+    }
 
-/// Mends one sector: writes the doubtful place anew, as the one plaintext
-/// seals, and nothing if the sector is whole.
-///
-/// The verdict is what it found before; afterwards the sector is whole. Write
-/// out the place that it names. After a cut, mend again.
-///
-/// # Errors
-///
-/// Those of [`blank`], then in this order: [`Lost`](Refusal::Lost);
-/// [`Clashing`](Refusal::Clashing).
-pub fn mend(
-    key: &[u8],
-    size: usize,
-    count: usize,
-    number: usize,
-    local: &mut [u8],
-    tags: &mut [u8],
-    remote: &mut [u8],
-) -> Result<Verdict, Refusal> {
-    // SAFETY: as in `blank`.
-    judged(unsafe {
-        ffi::mirror_mend(
-            key.as_ptr(),
-            key.len(),
-            size,
-            count,
-            number,
-            local.as_mut_ptr(),
-            local.len(),
-            tags.as_mut_ptr(),
-            tags.len(),
-            remote.as_mut_ptr(),
-            remote.len(),
-        )
-    })
+    /// The tag image, to be loaded from the medium.
+    pub fn tags_mut(&mut self) -> &mut [u8] {
+        self.tags.as_mut()
+    }
+
+    /// The remote image, to be loaded from the medium.
+    pub fn remote_mut(&mut self) -> &mut [u8] {
+        self.remote.as_mut()
+    }
+
+    /// Blanks one sector: seals zeros into its part of all three images, whatever
+    /// was there. Each sector of a new volume is blanked before its first write.
+    /// A cut leaves anything in the sector: blank it again.
+    ///
+    /// # Errors
+    ///
+    /// In this order: [`KeyLength`](Refusal::KeyLength);
+    /// [`SectorSize`](Refusal::SectorSize);
+    /// [`VolumeShape`](Refusal::VolumeShape);
+    /// [`SectorNumber`](Refusal::SectorNumber).
+    pub fn blank(&mut self, number: usize) -> Result<(), Refusal> {
+        let local = self.local.as_mut();
+        let tags = self.tags.as_mut();
+        let remote = self.remote.as_mut();
+        // SAFETY: each image is asked for its bytes once, since a type may give
+        // others when asked again. Each pointer and length is that of one slice,
+        // which lives through the call; those that are written are borrowed
+        // alone, so none overlaps.
+        done(unsafe {
+            ffi::mirror_blank(
+                self.key.as_ptr(),
+                self.key.len(),
+                self.size,
+                self.count,
+                number,
+                local.as_mut_ptr(),
+                local.len(),
+                tags.as_mut_ptr(),
+                tags.len(),
+                remote.as_mut_ptr(),
+                remote.len(),
+            )
+        })
+    }
+
+    /// The first stage of a write: writes the plaintext's local sector. Write out
+    /// [`local_part`](Self::local_part), and flush.
+    ///
+    /// The three stages take one plaintext. What each wrote is on the medium
+    /// before the next begins; see [power cuts](crate#power-cuts), also for what
+    /// a read gives in between: the old plaintext until the tag is written, then
+    /// the new one, or [`Clashing`](Refusal::Clashing) until the write goes on.
+    ///
+    /// # Errors
+    ///
+    /// Those of [`blank`](Self::blank), then in this order:
+    /// [`OtherLength`](Refusal::OtherLength) of the plaintext;
+    /// [`StageOrder`](Refusal::StageOrder) if the sector is not whole: go by what
+    /// [`read`](Self::read) answers.
+    pub fn first_stage(&mut self, number: usize, plaintext: &[u8]) -> Result<(), Refusal> {
+        let local = self.local.as_mut();
+        let tags = self.tags.as_ref();
+        let remote = self.remote.as_ref();
+        // SAFETY: as in `blank`.
+        done(unsafe {
+            ffi::mirror_first_stage(
+                self.key.as_ptr(),
+                self.key.len(),
+                self.size,
+                self.count,
+                number,
+                plaintext.as_ptr(),
+                plaintext.len(),
+                local.as_mut_ptr(),
+                local.len(),
+                tags.as_ptr(),
+                tags.len(),
+                remote.as_ptr(),
+                remote.len(),
+            )
+        })
+    }
+
+    /// The second stage of a write: writes the plaintext's tag. Write out
+    /// [`tag_part`](Self::tag_part) in one write, and flush.
+    ///
+    /// It is accepted after the first stage with this plaintext also where a read
+    /// refuses [`Clashing`](Refusal::Clashing).
+    ///
+    /// # Errors
+    ///
+    /// Those of [`blank`](Self::blank), then in this order:
+    /// [`OtherLength`](Refusal::OtherLength) of the plaintext;
+    /// [`StageOrder`](Refusal::StageOrder) if the plaintext does not fit the
+    /// local sector.
+    pub fn second_stage(&mut self, number: usize, plaintext: &[u8]) -> Result<(), Refusal> {
+        let local = self.local.as_ref();
+        let tags = self.tags.as_mut();
+        let remote = self.remote.as_ref();
+        // SAFETY: as in `blank`.
+        done(unsafe {
+            ffi::mirror_second_stage(
+                self.key.as_ptr(),
+                self.key.len(),
+                self.size,
+                self.count,
+                number,
+                plaintext.as_ptr(),
+                plaintext.len(),
+                local.as_ptr(),
+                local.len(),
+                tags.as_mut_ptr(),
+                tags.len(),
+                remote.as_ptr(),
+                remote.len(),
+            )
+        })
+    }
+
+    /// The third stage of a write: writes the plaintext's remote sector. Write
+    /// out [`remote_part`](Self::remote_part), and flush.
+    ///
+    /// It is accepted after the second stage with this plaintext also where a
+    /// read refuses [`Clashing`](Refusal::Clashing), and ends the clash.
+    ///
+    /// # Errors
+    ///
+    /// Those of [`blank`](Self::blank), then in this order:
+    /// [`OtherLength`](Refusal::OtherLength) of the plaintext;
+    /// [`StageOrder`](Refusal::StageOrder) if the plaintext does not fit both the
+    /// local sector and the tag.
+    pub fn third_stage(&mut self, number: usize, plaintext: &[u8]) -> Result<(), Refusal> {
+        let local = self.local.as_ref();
+        let tags = self.tags.as_ref();
+        let remote = self.remote.as_mut();
+        // SAFETY: as in `blank`.
+        done(unsafe {
+            ffi::mirror_third_stage(
+                self.key.as_ptr(),
+                self.key.len(),
+                self.size,
+                self.count,
+                number,
+                plaintext.as_ptr(),
+                plaintext.len(),
+                local.as_ptr(),
+                local.len(),
+                tags.as_ptr(),
+                tags.len(),
+                remote.as_mut_ptr(),
+                remote.len(),
+            )
+        })
+    }
+
+    /// Mends one sector: writes the doubtful place anew, as the one plaintext
+    /// seals, and nothing if the sector is whole.
+    ///
+    /// The verdict is what it found before; afterwards the sector is whole. Write
+    /// out the part that it names, and flush. After a cut, mend again.
+    ///
+    /// # Errors
+    ///
+    /// Those of [`blank`](Self::blank), then in this order:
+    /// [`Lost`](Refusal::Lost); [`Clashing`](Refusal::Clashing).
+    pub fn mend(&mut self, number: usize) -> Result<Verdict, Refusal> {
+        let local = self.local.as_mut();
+        let tags = self.tags.as_mut();
+        let remote = self.remote.as_mut();
+        // SAFETY: as in `blank`.
+        judged(unsafe {
+            ffi::mirror_mend(
+                self.key.as_ptr(),
+                self.key.len(),
+                self.size,
+                self.count,
+                number,
+                local.as_mut_ptr(),
+                local.len(),
+                tags.as_mut_ptr(),
+                tags.len(),
+                remote.as_mut_ptr(),
+                remote.len(),
+            )
+        })
+    }
 }
 
 /// What a survey counts. The first four add up to the count of sectors.
@@ -263,205 +423,17 @@ impl Survey {
     pub fn not_whole(&self) -> usize {
         self.doubtful + self.clashing + self.lost
     }
-}
 
-/// Surveys a volume: judges every sector and counts the verdicts.
-///
-/// The number of each sector that is not whole, once each and in rising order,
-/// is written to the front of the list, which is given back cut to these.
-/// Entries behind are untouched.
-///
-/// # Errors
-///
-/// In this order: [`KeyLength`](Refusal::KeyLength);
-/// [`SectorSize`](Refusal::SectorSize); [`VolumeShape`](Refusal::VolumeShape);
-/// [`ListLength`](Refusal::ListLength).
-pub fn survey<'l>(
-    key: &[u8],
-    size: usize,
-    count: usize,
-    local: &[u8],
-    tags: &[u8],
-    remote: &[u8],
-    list: &'l mut [u32],
-) -> Result<(Survey, &'l [u32]), Refusal> {
-    let mut counts = [0; 5];
-    // SAFETY: as in `blank`, and the counts live through the call.
-    done(unsafe {
-        ffi::mirror_survey(
-            key.as_ptr(),
-            key.len(),
-            size,
-            count,
-            local.as_ptr(),
-            local.len(),
-            tags.as_ptr(),
-            tags.len(),
-            remote.as_ptr(),
-            remote.len(),
-            list.as_mut_ptr(),
-            list.len(),
-            &mut counts,
-        )
-    })?;
-    // Each is at most 65,536, so no bits are lost.
-    let [whole, doubtful, clashing, lost, health] = counts.map(|number| number as usize);
-    let survey = Survey {
-        whole,
-        doubtful,
-        clashing,
-        lost,
-        health,
-    };
-    Ok((survey, &list[..survey.not_whole()]))
-}
-
-/// A volume that is lent: what each call on it takes besides its own.
-///
-/// Each method is the function of that name. Nothing is checked when the value
-/// is made; every call checks for itself.
-///
-/// The images are private memory, not a shared mapping of the medium, and the
-/// caller writes out what a call changed. A call is finished only once that is
-/// on the medium; a power cut before is a cut in that call. Flush before the next
-/// call on the volume, and see [power cuts](crate#power-cuts) for what else a
-/// medium has to keep.
-pub struct Volume<'a> {
-    /// The key: 32 bytes.
-    pub key: &'a [u8],
-    /// The bytes of a sector.
-    pub size: usize,
-    /// How many sectors there are.
-    pub count: usize,
-    /// The local image: count times size bytes.
-    pub local: &'a mut [u8],
-    /// The tag image: count times 16 bytes.
-    pub tags: &'a mut [u8],
-    /// The remote image: count times size bytes.
-    pub remote: &'a mut [u8],
-}
-
-impl Volume<'_> {
-    /// See [`blank()`].
-    ///
-    /// # Errors
-    ///
-    /// As there.
-    pub fn blank(&mut self, number: usize) -> Result<(), Refusal> {
-        blank(
-            self.key,
-            self.size,
-            self.count,
-            number,
-            self.local,
-            self.tags,
-            self.remote,
-        )
-    }
-
-    /// See [`first_stage()`].
-    ///
-    /// # Errors
-    ///
-    /// As there.
-    pub fn first_stage(&mut self, number: usize, plaintext: &[u8]) -> Result<(), Refusal> {
-        first_stage(
-            self.key,
-            self.size,
-            self.count,
-            number,
-            plaintext,
-            self.local,
-            self.tags,
-            self.remote,
-        )
-    }
-
-    /// See [`second_stage()`].
-    ///
-    /// # Errors
-    ///
-    /// As there.
-    pub fn second_stage(&mut self, number: usize, plaintext: &[u8]) -> Result<(), Refusal> {
-        second_stage(
-            self.key,
-            self.size,
-            self.count,
-            number,
-            plaintext,
-            self.local,
-            self.tags,
-            self.remote,
-        )
-    }
-
-    /// See [`third_stage()`].
-    ///
-    /// # Errors
-    ///
-    /// As there.
-    pub fn third_stage(&mut self, number: usize, plaintext: &[u8]) -> Result<(), Refusal> {
-        third_stage(
-            self.key,
-            self.size,
-            self.count,
-            number,
-            plaintext,
-            self.local,
-            self.tags,
-            self.remote,
-        )
-    }
-
-    /// See [`read()`].
-    ///
-    /// # Errors
-    ///
-    /// As there.
-    pub fn read(&self, number: usize, output: &mut [u8]) -> Result<Verdict, Refusal> {
-        read(
-            self.key,
-            self.size,
-            self.count,
-            number,
-            self.local,
-            self.tags,
-            self.remote,
-            output,
-        )
-    }
-
-    /// See [`mend()`].
-    ///
-    /// # Errors
-    ///
-    /// As there.
-    pub fn mend(&mut self, number: usize) -> Result<Verdict, Refusal> {
-        mend(
-            self.key,
-            self.size,
-            self.count,
-            number,
-            self.local,
-            self.tags,
-            self.remote,
-        )
-    }
-
-    /// See [`survey()`].
-    ///
-    /// # Errors
-    ///
-    /// As there.
-    pub fn survey<'l>(&self, list: &'l mut [u32]) -> Result<(Survey, &'l [u32]), Refusal> {
-        survey(
-            self.key,
-            self.size,
-            self.count,
-            self.local,
-            self.tags,
-            self.remote,
-            list,
-        )
+    /// The library's counts by their names. Each is at most 65,536, so no bits
+    /// are lost.
+    fn from_counts(counts: [u64; 5]) -> Survey {
+        let [whole, doubtful, clashing, lost, health] = counts.map(|number| number as usize);
+        Survey {
+            whole,
+            doubtful,
+            clashing,
+            lost,
+            health,
+        }
     }
 }

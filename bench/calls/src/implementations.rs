@@ -45,8 +45,8 @@ macro_rules! calls_of {
             match call {
                 Call::Seal => {
                     let (plain, local) = (&v.plain[side.clone()], &mut local[side.clone()]);
-                    let (remote, tag) = (&mut remote[side], &mut tags[tag]);
-                    calls::seal(key, number as u64, plain, local, remote, tag)
+                    let (tag, remote) = (&mut tags[tag], &mut remote[side]);
+                    calls::seal(key, number as u64, plain, local, tag, remote)
                 }
                 Call::Judge => {
                     let (local, remote) = (&local[side.clone()], &remote[side]);
@@ -77,8 +77,8 @@ mod rust_calls {
         address: u64,
         plain: &[u8],
         local: &mut [u8],
-        remote: &mut [u8],
         tag: &mut [u8],
+        remote: &mut [u8],
     ) -> u32 {
         let answer = reference::seal::seal(key, address, plain, local, remote, tag);
         u32::from(answer_number(&answer))

@@ -62,8 +62,8 @@ pub fn seal(
     address: u64,
     plain: &[u8],
     local: &mut [u8],
-    remote: &mut [u8],
     tag: &mut [u8],
+    remote: &mut [u8],
 ) -> u32 {
     let (key, plain) = (shared(key), shared(plain));
     unsafe { plain_seal(key, address, plain, lent(local), lent(remote), lent(tag)) }

@@ -34,7 +34,7 @@ pub fn sealed(address: u64, plaintext: &[u8]) -> Triple {
         remote: vec![0; plaintext.len()],
     };
     let Triple { local, tag, remote } = &mut triple;
-    seal(&key(), address, plaintext, local, remote, tag).expect("lengths are right");
+    seal(&key(), address, plaintext, local, tag, remote).expect("lengths are right");
     triple
 }
 

@@ -3,6 +3,7 @@
 mod common;
 #[path = "../../examples/mend.rs"]
 mod example;
+mod images;
 mod numbers;
 mod sector;
 mod volume;

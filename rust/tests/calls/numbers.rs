@@ -1,5 +1,6 @@
-//! Numbers and texts of the answers, and what only the unsafe functions can
-//! show: an unknown side, null pointers, and counts after a refusal.
+//! Numbers and texts of the answers, the numbers of the release and of sizes,
+//! and what only the unsafe functions can show: an unknown side, null pointers,
+//! and counts after a refusal.
 
 use crate::common::{bytes, key, sealed, Triple, SIZE};
 use mirror::{ffi, Place, Refusal, Side, Verdict};
@@ -16,6 +17,25 @@ fn refusals_have_the_numbers_1_to_11() {
     for number in [0, 12, 0x81, u32::MAX] {
         assert_eq!(Refusal::from_number(number), None);
     }
+}
+
+#[test]
+fn the_library_is_of_the_same_release() {
+    assert_eq!(mirror::version(), mirror::VERSION);
+    let parts = env!("CARGO_PKG_VERSION").split('.');
+    let parts: Vec<u32> = parts.map(|part| part.parse().expect("a number")).collect();
+    let due = parts.iter().fold(0, |number, part| number * 1000 + part);
+    assert_eq!((parts.len(), mirror::VERSION), (3, due));
+}
+
+#[test]
+fn sizes_are_those_of_the_requirement() {
+    assert_eq!((mirror::KEY_BYTES, mirror::TAG_BYTES), (32, 16));
+    assert_eq!(
+        (mirror::SECTOR_BYTES_MIN, mirror::SECTOR_BYTES_MAX),
+        (16, 4096)
+    );
+    assert_eq!(mirror::VOLUME_SECTORS_MAX, 65_536);
 }
 
 #[test]

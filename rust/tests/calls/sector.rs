@@ -3,6 +3,7 @@
 use crate::common::{bytes, clashing, key, sealed, Triple, SIZE};
 use mirror::{combine, judge, open, rebuild, seal};
 use mirror::{Place, Refusal, Side, Verdict};
+use mirror::{SECTOR_BYTES_MAX, SECTOR_BYTES_MIN, TAG_BYTES};
 
 const ADDRESS: u64 = 0x0123_4567_89ab_cdef;
 
@@ -106,8 +107,8 @@ fn seal_and_judge_refuse_in_order() {
             ADDRESS,
             &plaintext[..size],
             local,
-            remote,
             &mut tag[..tag_length],
+            remote,
         );
         assert_eq!(refused, Err(due));
         assert_eq!(triple, whole);
@@ -143,10 +144,10 @@ fn open_and_rebuild_refuse_in_order() {
 fn sizes_at_the_bounds() {
     for (size, accepted) in [
         (0, false),
-        (mirror::LEAST_SECTOR - 1, false),
-        (mirror::LEAST_SECTOR, true),
-        (mirror::MOST_SECTOR, true),
-        (mirror::MOST_SECTOR + 16, false),
+        (SECTOR_BYTES_MIN - 1, false),
+        (SECTOR_BYTES_MIN, true),
+        (SECTOR_BYTES_MAX, true),
+        (SECTOR_BYTES_MAX + 16, false),
     ] {
         let (mut local, mut remote) = (vec![0; size], vec![0; size]);
         let answer = seal(
@@ -154,8 +155,8 @@ fn sizes_at_the_bounds() {
             ADDRESS,
             &vec![9; size],
             &mut local,
+            &mut [0; TAG_BYTES],
             &mut remote,
-            &mut [0; 16],
         );
         assert_eq!(answer.is_ok(), accepted);
     }

@@ -1,8 +1,10 @@
-//! The calls on a volume: each answer as the wrapper names it, as functions and
-//! as methods.
+//! The calls on a volume: each answer as the wrapper names it.
 
 use crate::common::{bytes, clashing, key, sealed, Triple, COUNT, SIZE};
-use mirror::{Place, Refusal, Side, Survey, Verdict, Volume, TAG_BYTES};
+use mirror::{Place, Refusal, Side, Survey, Verdict, Volume, TAG_BYTES, VOLUME_SECTORS_MAX};
+
+/// A volume whose images are lent.
+type Lent<'a> = Volume<'a, &'a mut [u8]>;
 
 /// The three images.
 #[derive(Clone, Debug, PartialEq)]
@@ -25,15 +27,18 @@ impl Images {
         images
     }
 
-    fn volume<'a>(&'a mut self, key: &'a [u8]) -> Volume<'a> {
-        Volume {
-            key,
-            size: SIZE,
-            count: COUNT,
-            local: &mut self.local,
-            tags: &mut self.tags,
-            remote: &mut self.remote,
-        }
+    fn volume<'a>(&'a mut self, key: &'a [u8]) -> Lent<'a> {
+        self.of_shape(key, SIZE, COUNT)
+    }
+
+    /// A volume that says it has this shape.
+    fn of_shape<'a>(&'a mut self, key: &'a [u8], size: usize, count: usize) -> Lent<'a> {
+        let Images {
+            local,
+            tags,
+            remote,
+        } = self;
+        Volume::new(key, size, count, local, tags, remote)
     }
 
     fn put(&mut self, number: usize, triple: &Triple) {
@@ -96,7 +101,7 @@ fn before_a_write_of_equal_tag() -> (Images, Vec<u8>, Vec<u8>) {
 }
 
 /// Neither read nor mend, and no first stage.
-fn insist_on_clash(volume: &mut Volume, plaintext: &[u8]) {
+fn insist_on_clash(volume: &mut Lent, plaintext: &[u8]) {
     let clashing = Err(Refusal::Clashing);
     assert_eq!(volume.read(1, &mut [0; SIZE]), clashing);
     assert_eq!(volume.mend(1), clashing);
@@ -135,10 +140,12 @@ fn a_first_stage_cut_into_a_clash_is_undone_by_rebuilding() {
     assert_eq!(volume.second_stage(1, &new), early);
     assert_eq!(volume.third_stage(1, &new), early);
 
-    let (tag, remote) = (&volume.tags[16..32], &volume.remote[SIZE..2 * SIZE]);
-    let local = &mut volume.local[SIZE..2 * SIZE];
-    let rebuilt = mirror::rebuild(&key, 1, Side::Remote, remote, tag, local);
+    let mut local = [0; SIZE];
+    let (tag, remote) = (volume.tag_part(1), volume.remote_part(1));
+    let (tag, remote) = (tag.expect("sector 1"), remote.expect("sector 1"));
+    let rebuilt = mirror::rebuild(&key, 1, Side::Remote, remote, tag, &mut local);
     assert_eq!(rebuilt, Ok(()));
+    volume.local_mut()[SIZE..2 * SIZE].copy_from_slice(&local);
     let mut output = [0; SIZE];
     assert_eq!(volume.read(1, &mut output), Ok(Verdict::Whole));
     assert_eq!(output[..], old);
@@ -239,7 +246,7 @@ fn surveys() {
 
 /// The answers of the seven calls on a volume, with an output and a plaintext of
 /// no bytes and a list of no entries.
-fn refusals(volume: &mut Volume, number: usize) -> [Option<Refusal>; 7] {
+fn refusals(volume: &mut Lent, number: usize) -> [Option<Refusal>; 7] {
     [
         volume.blank(number).err(),
         volume.mend(number).err(),
@@ -253,26 +260,28 @@ fn refusals(volume: &mut Volume, number: usize) -> [Option<Refusal>; 7] {
 
 #[test]
 fn refusals_in_order() {
-    let good_key = key();
+    let key = key();
     let mut images = damaged();
-    let mut volume = images.volume(&good_key);
-    let [_, _, others @ .., survey] = refusals(&mut volume, COUNT - 1);
+    let [_, _, others @ .., survey] = refusals(&mut images.volume(&key), COUNT - 1);
     assert_eq!(others, [Some(Refusal::OtherLength); 4]);
     assert_eq!(survey, Some(Refusal::ListLength));
 
-    let [others @ .., _] = refusals(&mut volume, COUNT);
+    // From here on every call is refused.
+    let before = images.clone();
+    let [others @ .., _] = refusals(&mut images.volume(&key), COUNT);
     assert_eq!(others, [Some(Refusal::SectorNumber); 6]);
-    for count in [0, COUNT + 1, mirror::MOST_SECTORS + 1] {
-        volume.count = count;
+    for count in [0, COUNT + 1, VOLUME_SECTORS_MAX + 1] {
+        let volume = &mut images.of_shape(&key, SIZE, count);
         let due = [Some(Refusal::VolumeShape); 7];
-        assert_eq!(refusals(&mut volume, usize::MAX), due);
+        assert_eq!(refusals(volume, usize::MAX), due);
     }
-    volume.size = 15;
+    let volume = &mut images.of_shape(&key, 15, VOLUME_SECTORS_MAX + 1);
     let due = [Some(Refusal::SectorSize); 7];
-    assert_eq!(refusals(&mut volume, usize::MAX), due);
-    volume.key = &good_key[1..];
+    assert_eq!(refusals(volume, usize::MAX), due);
+    let volume = &mut images.of_shape(&key[1..], 15, VOLUME_SECTORS_MAX + 1);
     let due = [Some(Refusal::KeyLength); 7];
-    assert_eq!(refusals(&mut volume, usize::MAX), due);
+    assert_eq!(refusals(volume, usize::MAX), due);
+    assert_eq!(images, before);
 }
 
 #[test]

@@ -6,7 +6,7 @@
 
 pub mod both;
 
-use mirror::{ffi, Place, Refusal, Side, Verdict};
+use mirror::{ffi, Place, Refusal, Side, Verdict, Volume};
 
 /// The requirement's number for a refusal, by its name. The wrapper's own number
 /// would be the library's again, whatever name it stands under.
@@ -46,10 +46,10 @@ pub fn seal(
     address: u64,
     plain: &[u8],
     local: &mut [u8],
-    remote: &mut [u8],
     tag: &mut [u8],
+    remote: &mut [u8],
 ) -> u32 {
-    done(mirror::seal(key, address, plain, local, remote, tag))
+    done(mirror::seal(key, address, plain, local, tag, remote))
 }
 
 pub fn judge(
@@ -141,7 +141,7 @@ pub fn blank(
     tags: &mut [u8],
     remote: &mut [u8],
 ) -> u32 {
-    done(mirror::blank(key, s, n, number, local, tags, remote))
+    done(Volume::new(key, s, n, local, tags, remote).blank(number))
 }
 
 pub fn first_stage(
@@ -151,12 +151,10 @@ pub fn first_stage(
     number: usize,
     plain: &[u8],
     local: &mut [u8],
-    tags: &[u8],
-    remote: &[u8],
+    tags: &mut [u8],
+    remote: &mut [u8],
 ) -> u32 {
-    done(mirror::first_stage(
-        key, s, n, number, plain, local, tags, remote,
-    ))
+    done(Volume::new(key, s, n, local, tags, remote).first_stage(number, plain))
 }
 
 pub fn second_stage(
@@ -165,13 +163,11 @@ pub fn second_stage(
     n: usize,
     number: usize,
     plain: &[u8],
-    local: &[u8],
+    local: &mut [u8],
     tags: &mut [u8],
-    remote: &[u8],
+    remote: &mut [u8],
 ) -> u32 {
-    done(mirror::second_stage(
-        key, s, n, number, plain, local, tags, remote,
-    ))
+    done(Volume::new(key, s, n, local, tags, remote).second_stage(number, plain))
 }
 
 pub fn third_stage(
@@ -180,13 +176,11 @@ pub fn third_stage(
     n: usize,
     number: usize,
     plain: &[u8],
-    local: &[u8],
-    tags: &[u8],
+    local: &mut [u8],
+    tags: &mut [u8],
     remote: &mut [u8],
 ) -> u32 {
-    done(mirror::third_stage(
-        key, s, n, number, plain, local, tags, remote,
-    ))
+    done(Volume::new(key, s, n, local, tags, remote).third_stage(number, plain))
 }
 
 pub fn read(
@@ -199,7 +193,7 @@ pub fn read(
     remote: &[u8],
     out: &mut [u8],
 ) -> u32 {
-    judged(mirror::read(key, s, n, number, local, tags, remote, out))
+    judged(Volume::new(key, s, n, local, tags, remote).read(number, out))
 }
 
 pub fn mend(
@@ -211,7 +205,7 @@ pub fn mend(
     tags: &mut [u8],
     remote: &mut [u8],
 ) -> u32 {
-    judged(mirror::mend(key, s, n, number, local, tags, remote))
+    judged(Volume::new(key, s, n, local, tags, remote).mend(number))
 }
 
 /// The counts are whole, doubtful, clashing, lost and the health. The numbers
@@ -227,7 +221,7 @@ pub fn survey(
     counts: &mut [u64; 5],
 ) -> u32 {
     let start = list.as_ptr();
-    match mirror::survey(key, s, n, local, tags, remote, list) {
+    match Volume::new(key, s, n, local, tags, remote).survey(list) {
         Ok((found, listed)) => {
             assert_eq!((listed.as_ptr(), listed.len()), (start, n - found.whole));
             let found = [

@@ -79,7 +79,7 @@ const CALLS: [(Call, &[u32]); 12] = [
 fn parameters(call: Call) -> Vec<Parameter> {
     let of_volume = |more: &[Parameter]| [OF_VOLUME, more].concat();
     match call {
-        Call::Seal => vec![SizeOfAll, Key, Plain, Local, Remote, Tag],
+        Call::Seal => vec![SizeOfAll, Key, Plain, Local, Tag, Remote],
         Call::Judge => vec![Contents, SizeOfAll, Key, Local, Tag, Remote, Out],
         Call::Open | Call::Rebuild => vec![Contents, SizeOfAll, Key, Side, Sector, Tag, Out],
         Call::Combine => vec![SizeOfAll, Local, Remote, Out],

@@ -118,7 +118,7 @@ impl Call {
         let (local, tag, remote) = (&mut lent.local, &mut lent.tag, &mut lent.remote);
         let (list, counts) = (&mut lent.list, &mut lent.counts);
         match self {
-            Call::Seal => linked::seal(key, address, plain, local, remote, tag),
+            Call::Seal => linked::seal(key, address, plain, local, tag, remote),
             Call::Judge => linked::judge(key, address, local, tag, remote, out),
             Call::Open => linked::open(key, address, side, sector, tag, out),
             Call::Rebuild => linked::rebuild(key, address, side, sector, tag, out),
