@@ -177,3 +177,8 @@ pub const SECTOR_BYTES_MAX: usize = 4096;
 
 /// The sectors of the largest volume.
 pub const VOLUME_SECTORS_MAX: usize = 65_536;
+
+/// The README's example, as a test.
+#[cfg(doctest)]
+#[doc = include_str!("../README.md")]
+pub struct Readme;
