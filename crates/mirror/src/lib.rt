@@ -13,6 +13,15 @@ ghost use Rattle.history.specs.Volume.{mirror, outcome, readOutcome};
 ghost use Rattle.history.specs.Volume as W;
 ghost use Rattle.survey.specs.Survey.{surveyOutcome};
 ghost use Rattle.mirror.specs.Survey.{numbers, surveyResult};
+ghost use Rattle.mirror.specs.Version.{release};
+
+// The release that the library is of, 0.1.0, so that a program can tell whether it is the one that the program was compiled for.
+#[no_mangle]
+pub extern "C" fn mirror_version() -> u32
+    ensures { λ r. ⌜ r ≡ release 0 1 0 ⌝ }
+{
+    1000
+}
 
 fn done_number(d: Done) -> u32
     ensures { λ n. ⌜ n ≡ doneNumber d ⌝ }
@@ -32,12 +41,12 @@ pub extern "C" fn mirror_seal(
     address: u64,
     plain: &[u8],
     local: &mut [u8],
-    remote: &mut [u8],
     tag: &mut [u8],
+    remote: &mut [u8],
 ) -> u32
     ensures { λ r. ⌜ sealCall (keyFrom (now (key .entry))) address (now (plain .entry)) (triple (now (local .entry)) (now (tag .entry)) (now (remote .entry))) ≡ (r, triple (now (local .exit)) (now (tag .exit)) (now (remote .exit))) ⌝ }
 {
-    done_number(sector::seal(key, address, plain, local, remote, tag))
+    done_number(sector::seal(key, address, plain, local, tag, remote))
 }
 
 #[no_mangle]

@@ -137,8 +137,8 @@ fn seal(frame: &[u8], local: &mut [u8], remote: &mut [u8], tag: &mut [u8]) -> u8
         address(frame),
         field(frame, 2),
         local,
-        remote,
         tag,
+        remote,
     ))
 }
 

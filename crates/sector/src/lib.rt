@@ -78,8 +78,8 @@ fn seal_in<'k>(
     ctx: Context,
     p: &[u8],
     local: &mut [u8],
-    remote: &mut [u8],
     tag: &mut [u8],
+    remote: &mut [u8],
 )
     requires { ⌜ Ready (now t) (now w) (now powers) ctx × Sizes (length (now p)) (length (now local)) (length (now remote)) (length (now tag)) ⌝ }
     ensures { λ _. ⌜ triple (now (local .exit)) (now (tag .exit)) (now (remote .exit)) ≡ schemeOf (now (w .entry)) (now (powers .entry)) .sealed (value (ctx .tweak)) (now (p .entry)) ⌝ }
@@ -94,8 +94,8 @@ fn seal_checked(
     address: u64,
     p: &[u8],
     local: &mut [u8],
-    remote: &mut [u8],
     tag: &mut [u8],
+    remote: &mut [u8],
 )
     requires { ⌜ (isKey (keyFrom (now key)) ≡ true) × Sizes (length (now p)) (length (now local)) (length (now remote)) (length (now tag)) ⌝ }
     ensures { λ _. ⌜ triple (now (local .exit)) (now (tag .exit)) (now (remote .exit)) ≡ sealed (keyFrom (now (key .entry))) address (now (p .entry)) ⌝ }
@@ -103,24 +103,24 @@ fn seal_checked(
     let t = aes::table();
     let k = mode::prepare(&t, key);
     let ctx = mode::context_at(k.masks, address);
-    seal_in(&t, &k.words, &k.powers, ctx, p, local, remote, tag);
+    seal_in(&t, &k.words, &k.powers, ctx, p, local, tag, remote);
 }
 
-// Seals the plaintext p: writes the local sector, the remote sector and the tag.
+// Seals the plaintext p: writes the local sector, the tag and the remote sector.
 pub fn seal(
     key: &[u8],
     address: u64,
     p: &[u8],
     local: &mut [u8],
-    remote: &mut [u8],
     tag: &mut [u8],
+    remote: &mut [u8],
 ) -> Done
     ensures { λ r. ⌜ sealCall (keyFrom (now (key .entry))) address (now (p .entry)) (triple (now (local .entry)) (now (tag .entry)) (now (remote .entry))) ≡ (doneNumber r, triple (now (local .exit)) (now (tag .exit)) (now (remote .exit))) ⌝ }
 {
     let checked = answers::check_parts(key, p.len(), local.len(), remote.len(), tag.len());
     match checked {
         Done::Done => {
-            seal_checked(key, address, p, local, remote, tag);
+            seal_checked(key, address, p, local, tag, remote);
             Done::Done
         }
         Done::Refused(refusal) => Done::Refused(refusal),
