@@ -1,49 +1,78 @@
-/* A volume of four sectors: one is written, damaged, read and mended. Build and run it from the root:
+/* A volume of four sectors: one is written, damaged, read and mended. Build and run it from the root of the source tree, PREFIX being a
+ * folder of your choice, as an absolute path:
  *
- *   rt staticlib mirror
- *   cc -Iinclude examples/mend.c target/staticlib/libmirror.a -o target/mend && target/mend
+ *   scripts/install PREFIX
+ *   export PKG_CONFIG_PATH=PREFIX/lib/pkgconfig
+ *   cc examples/mend.c $(pkg-config --cflags --libs mirror) -o target/mend && target/mend
+ *
+ * It ends with 0 if each answer is the one that is due, and otherwise with 1 at the first that is not.
  */
-#include "mirror.h"
+#include <mirror.h>
 
 #include <stdio.h>
+#include <stdlib.h>
 #include <string.h>
 
 enum { SIZE = 512, COUNT = 4, NUMBER = 2 };
 
+/* A real key is 32 random bytes. */
 static const uint8_t key[MIRROR_KEY_BYTES] = "an example key: h, and then K..";
 static uint8_t local[COUNT * SIZE], tags[COUNT * MIRROR_TAG_BYTES], remote[COUNT * SIZE];
 
-#define IMAGES local, sizeof local, tags, sizeof tags, remote, sizeof remote
+static const struct mirror_volume volume = {.key = key,
+                                            .key_len = sizeof key,
+                                            .s = SIZE,
+                                            .n = COUNT,
+                                            .local = local,
+                                            .local_len = sizeof local,
+                                            .tags = tags,
+                                            .tags_len = sizeof tags,
+                                            .remote = remote,
+                                            .remote_len = sizeof remote};
 
-/* These images are in memory only. On a medium, what a stage wrote is written out and flushed before the next call: mirror.h, POWER CUTS. */
-static uint32_t write_sector(size_t number, const uint8_t plain[SIZE])
+static void expect(const char *call, uint32_t answer, uint32_t due)
 {
-    uint32_t answer = mirror_first_stage(key, sizeof key, SIZE, COUNT, number, plain, SIZE, IMAGES);
-    if (answer == MIRROR_DONE)
-        answer = mirror_second_stage(key, sizeof key, SIZE, COUNT, number, plain, SIZE, IMAGES);
-    if (answer == MIRROR_DONE)
-        answer = mirror_third_stage(key, sizeof key, SIZE, COUNT, number, plain, SIZE, IMAGES);
-    return answer;
+    printf("%-22s %02x %s\n", call, (unsigned)answer, mirror_text(answer));
+    if (answer != due) {
+        fprintf(stderr, "%s: due is %02x, %s\n", call, (unsigned)due, mirror_text(due));
+        exit(1);
+    }
 }
 
-static int said(const char *call, uint32_t answer, uint32_t due)
+/* These images are in memory only. On a medium, what a stage wrote is written out and flushed before the next: mirror.h, POWER CUTS. */
+static void write_sector(size_t number, const uint8_t plain[SIZE])
 {
-    printf("%-28s %02x\n", call, (unsigned)answer);
-    return answer == due;
+    expect("first stage", mirror_volume_first_stage(&volume, number, plain, SIZE), MIRROR_DONE);
+    expect("second stage", mirror_volume_second_stage(&volume, number, plain, SIZE), MIRROR_DONE);
+    expect("third stage", mirror_volume_third_stage(&volume, number, plain, SIZE), MIRROR_DONE);
+}
+
+static void read_sector(size_t number, uint32_t due, const uint8_t plain[SIZE])
+{
+    uint8_t out[SIZE];
+    expect("read", mirror_volume_read(&volume, number, out, SIZE), due);
+    if (memcmp(out, plain, SIZE) != 0) {
+        fprintf(stderr, "read: gives another plaintext than was written\n");
+        exit(1);
+    }
 }
 
 int main(void)
 {
-    uint8_t plain[SIZE] = "what the sector holds", out[SIZE];
-    int good = 1;
+    static const uint8_t plain[SIZE] = "what the sector holds";
+    if (mirror_version() != MIRROR_VERSION) {
+        fprintf(stderr, "the library is of another release than the header, which is of " MIRROR_VERSION_TEXT "\n");
+        return 1;
+    }
     for (size_t i = 0; i < COUNT; i++)
-        good &= mirror_blank(key, sizeof key, SIZE, COUNT, i, IMAGES) == MIRROR_DONE;
-    good &= said("written", write_sector(NUMBER, plain), MIRROR_DONE);
-    good &= said("read: whole", mirror_read(key, sizeof key, SIZE, COUNT, NUMBER, IMAGES, out, SIZE), MIRROR_WHOLE);
+        expect("blank", mirror_volume_blank(&volume, i), MIRROR_DONE);
+    write_sector(NUMBER, plain);
+    read_sector(NUMBER, MIRROR_WHOLE, plain);
 
     memset(remote + NUMBER * SIZE, 0xff, 100);
-    good &= said("read: doubtful at remote", mirror_read(key, sizeof key, SIZE, COUNT, NUMBER, IMAGES, out, SIZE), MIRROR_DOUBTFUL_REMOTE);
-    good &= said("mended, what was found", mirror_mend(key, sizeof key, SIZE, COUNT, NUMBER, IMAGES), MIRROR_DOUBTFUL_REMOTE);
-    good &= said("read: whole", mirror_read(key, sizeof key, SIZE, COUNT, NUMBER, IMAGES, out, SIZE), MIRROR_WHOLE);
-    return good && memcmp(out, plain, SIZE) == 0 ? 0 : 1;
+    puts("100 bytes of the remote sector are damaged");
+    read_sector(NUMBER, MIRROR_DOUBTFUL_REMOTE, plain);
+    expect("mend, which has found", mirror_volume_mend(&volume, NUMBER), MIRROR_DOUBTFUL_REMOTE);
+    read_sector(NUMBER, MIRROR_WHOLE, plain);
+    return 0;
 }

@@ -1,30 +1,34 @@
 /*
- * mirror.h: the double ciphertext mirror (libmirror.a, x86-64 Linux; C99 or C++). SPDX-License-Identifier: Apache-2.0
+ * mirror.h: the double ciphertext mirror. For C99 and C++11, and later ones; the library is libmirror.a, for x86-64 Linux.
+ * SPDX-License-Identifier: Apache-2.0
  *
  * A SECTOR is kept in three places: a local sector, a tag and a remote sector. Sealing makes all three from a plaintext, under a key and
  * an address. Any two of them give the plaintext back, so damage to one place is found and can be mended, unless another plaintext happens
- * to fit two places as well (clashing).
+ * to fit two places as well (clashing). A plaintext FITS a place if sealing it gives the bytes that are there.
  *
- *   key        32 bytes: the hash key h (16 bytes), then the AES-128 key K (16 bytes). Choosing both is the caller's part. Not zeros for h:
- *              all plaintexts would have one tag, and a sector with a damaged side would clash.
+ *   key        32 bytes: the hash key h (16 bytes), then the AES-128 key K (16 bytes). Choosing both is the caller's part; see SECRETS.
  *   sector     s bytes, s a multiple of 16 from 16 to 4,096; the plaintext, the local and the remote sector all have s bytes
  *   tag        16 bytes
  *   address    any 64-bit number; a sector is judged at the address that it was sealed at
  *   volume     n sectors, n from 1 to 65,536, in three images: local (n*s bytes), tags (n*16 bytes), remote (n*s bytes).
  *              Sector number i, from 0, has address i: its parts begin at i*s, i*16 and i*s.
  *
- * SECRETS. Local and remote sector together give the plaintext WITHOUT the key (mirror_combine): whoever may read both needs no key. One
- * key, address and plaintext always give the same bytes. A call does not wipe what it leaves on the stack, and AES looks up a table by
- * secret bytes, so its time may depend on them. What an attacker can guess or forge is no claim of this library.
+ * BUILD AND LINK. In the library's source tree `scripts/install PREFIX` puts mirror.h into PREFIX/include, libmirror.a into PREFIX/lib and
+ * mirror.pc into PREFIX/lib/pkgconfig. A program is then built by
  *
- * ANSWERS. Each call returns one number: 0 or MIRROR_DOUBTFUL_... when it is done, or a refusal from 1 to 11. The refusals are checked in
- * the order in which they stand at the call, and the first that holds is the answer. A refused call has changed none of the bytes that
- * it was lent. An output is written when the answer is certain, and all of it. Always look at the answer: after a refusal the output is
- * what it was before.
+ *   cc program.c $(pkg-config --cflags --libs mirror)
+ *
+ * If pkg-config does not find mirror, it does not search this prefix: export PKG_CONFIG_PATH=PREFIX/lib/pkgconfig. Without pkg-config it
+ * is `cc -IPREFIX/include program.c PREFIX/lib/libmirror.a`.
+ *
+ * ANSWERS. Each call returns one number: 0 or MIRROR_DOUBTFUL_... when it is done, or a refusal, MIRROR_REFUSED_..., from 1 to 11. The
+ * refusals of a call are checked in the order in which they stand at it below, and the first that holds is the answer. A refused call has
+ * changed none of the bytes that it was lent. `out` is written when the answer is certain, and all of it. Always look at the answer: after
+ * a refusal `out` is what it was before. mirror_text gives a text for each answer.
  *
  * POINTERS. Each buffer goes as a pointer and its length (size_t), in elements. A call has no way to check these, the caller sees to it:
  *   - a pointer is valid for its length, and the length in bytes is at most PTRDIFF_MAX;
- *   - it may be NULL only if its length is 0; `counts` has no length and is never NULL;
+ *   - it may be NULL only if its length is 0; `counts` has no length, is valid for MIRROR_COUNTS_LENGTH numbers and is never NULL;
  *   - `list` is aligned for uint32_t and `counts` for uint64_t; bytes need no alignment;
  *   - a buffer that the call may write (one without const) overlaps no other buffer of the call, not even in part. What is proved of a
  *     call says nothing about overlaps. Buffers that are only read may overlap each other.
@@ -35,8 +39,18 @@
  * several threads if no buffer that one of them may write is lent to another. A call on a volume is lent whole images, so on one volume
  * only reads and surveys may run at once.
  *
+ * SECRETS. What an attacker can guess, forge or measure is no claim of this library; SECURITY.md in the source tree says more.
+ *   - Local and remote sector together give the plaintext WITHOUT the key (mirror_combine): whoever may read both needs no key.
+ *   - h must not be zero. All plaintexts would have one tag, and a sector with a damaged side would clash. No call checks this.
+ *   - One key belongs to one volume. Key, address and plaintext alone decide all bytes: two volumes under one key have equal bytes for
+ *     equal plaintexts at equal addresses, and a sector of one is accepted in the other, at the same number. Also in one volume a sector's
+ *     old bytes, put back into all three places, are accepted.
+ *   - Timing is not constant: AES looks up a table by secret bytes, comparisons end at the first difference, and a damaged sector takes
+ *     longer than a whole one.
+ *   - A call does not wipe its scratch memory on the stack: what it made from key and plaintext stays there.
+ *
  * POWER CUTS. The calls on a volume work on images in memory; the caller writes out the part that a call changed, and flushes it. What is
- * promised of a volume after a power cut holds if the caller sees to all of this:
+ * promised of a volume after a power cut holds if the caller sees to all of this (examples/medium.c does, with three files):
  *   - A call is FINISHED only once what it wrote is on the medium. Until then a power cut, whenever it comes and whatever is being done on
  *     other sectors, is a cut in that call, and so is writing out that fails. After it, load the images from the medium again.
  *   - So flush before the next call on the volume. If several calls are not finished when the power goes, it is a cut in each of them, and
@@ -46,14 +60,14 @@
  *     So the medium writes a unit whole or not at all, or the caller gives each part units of its own, or keeps a journal.
  *   - A tag goes out in one write that the medium does whole: after a cut it is the old one or the new one, never a mixture. A local or
  *     remote sector whose write had begun may then hold anything.
- *   - The images are private memory. A call stores a tag byte by byte: in a shared mapping of the medium (mmap with MAP_SHARED) a kill or a
- *     power cut between two bytes leaves a mixture, and a second stage cut so loses the sector.
+ *   - The images are private memory. A call may store a tag byte by byte: in a shared mapping of the medium (mmap with MAP_SHARED) a kill
+ *     or a power cut between two bytes leaves a mixture, and a second stage cut so loses the sector.
  *
- * EXAMPLE, linked by `cc -Iinclude program.c target/staticlib/libmirror.a`:
+ * EXAMPLE. One sector, at address 7. For a volume see struct mirror_volume below, and examples/ in the source tree.
  *
- *   uint8_t key[MIRROR_KEY_BYTES], plain[512], local[512], remote[512], tag[MIRROR_TAG_BYTES], out[512];
+ *   uint8_t key[MIRROR_KEY_BYTES], plain[512], local[512], tag[MIRROR_TAG_BYTES], remote[512], out[512];
  *   ...
- *   if (mirror_seal(key, sizeof key, 7, plain, sizeof plain, local, sizeof local, remote, sizeof remote, tag, sizeof tag) != MIRROR_DONE)
+ *   if (mirror_seal(key, sizeof key, 7, plain, sizeof plain, local, sizeof local, tag, sizeof tag, remote, sizeof remote) != MIRROR_DONE)
  *       return -1;
  *   switch (mirror_judge(key, sizeof key, 7, local, sizeof local, tag, sizeof tag, remote, sizeof remote, out, sizeof out)) {
  *   case MIRROR_WHOLE:           return 0;
@@ -69,39 +83,47 @@
 #include <stddef.h>
 #include <stdint.h>
 
-/* Sizes, in bytes, and the most sectors of a volume. */
+/* The release that this header is of: a number, major*1000000 + minor*1000 + patch, which #if can compare, and the same as a text. */
+#define MIRROR_VERSION 1000
+#define MIRROR_VERSION_TEXT "0.1.0"
+
+/* Sizes in bytes, and the sectors of the largest volume. */
 #define MIRROR_KEY_BYTES 32
 #define MIRROR_TAG_BYTES 16
-#define MIRROR_LEAST_SECTOR 16
-#define MIRROR_MOST_SECTOR 4096
-#define MIRROR_MOST_SECTORS 65536
+#define MIRROR_SECTOR_BYTES_MIN 16
+#define MIRROR_SECTOR_BYTES_MAX 4096
+#define MIRROR_VOLUME_SECTORS_MAX 65536
 #define MIRROR_STACK_BYTES 20480
 
 /* Sides. */
-#define MIRROR_LOCAL 0u
-#define MIRROR_REMOTE 1u
+#define MIRROR_SIDE_LOCAL 0u
+#define MIRROR_SIDE_REMOTE 1u
 
 /* Answers of a call that is done. */
 #define MIRROR_DONE 0u               /* a call that only writes: it has written */
 #define MIRROR_WHOLE 0u              /* judge, read, mend: one plaintext fits all three places */
-#define MIRROR_DOUBTFUL_LOCAL 0x81u  /* judge, read, mend: exactly one plaintext fits two places, and the local sector does not fit it */
-#define MIRROR_DOUBTFUL_TAG 0x82u    /* the same, and the tag does not fit it */
-#define MIRROR_DOUBTFUL_REMOTE 0x83u /* the same, and the remote sector does not fit it */
+#define MIRROR_DOUBTFUL_LOCAL 0x81u  /* judge, read, mend: exactly one plaintext fits two places, and it does not fit the local sector */
+#define MIRROR_DOUBTFUL_TAG 0x82u    /* the same, and it does not fit the tag */
+#define MIRROR_DOUBTFUL_REMOTE 0x83u /* the same, and it does not fit the remote sector */
 
 /* Refusals, with what to do. */
-#define MIRROR_KEY_LENGTH 1u    /* the key does not have 32 bytes: give h and then K */
-#define MIRROR_SECTOR_SIZE 2u   /* the size is not a multiple of 16 from 16 to 4,096: give the size that the sector was made with */
-#define MIRROR_OTHER_LENGTH 3u  /* a plaintext, sector, tag or output has another length than it must have: give s bytes, 16 for a tag */
-#define MIRROR_UNKNOWN_SIDE 4u  /* the side is neither MIRROR_LOCAL nor MIRROR_REMOTE: name one of them */
-#define MIRROR_NONE_FITS 5u     /* no plaintext fits this side and this tag: try the other side, or judge if both are there */
-#define MIRROR_LOST 6u          /* no plaintext fits two places: check the key on other sectors; then blank, and write from a backup */
-#define MIRROR_CLASHING 7u      /* more than one plaintext fits two places: if a write was under way, go on with its second and third
-                                   stage (if the second refuses 10, see "After a cut in a write" below); otherwise open each side,
-                                   combine both, choose, blank, and write the choice */
-#define MIRROR_VOLUME_SHAPE 8u  /* n is not 1 to 65,536, or an image has another length than s and n ask for: check s, n and the images */
-#define MIRROR_SECTOR_NUMBER 9u /* the number is not below n: sectors count from 0 */
-#define MIRROR_STAGE_ORDER 10u  /* this stage is not due: read the sector, mend it if doubtful, and begin with the first stage */
-#define MIRROR_LIST_LENGTH 11u  /* the list is shorter than n: lend one entry for each sector */
+#define MIRROR_REFUSED_KEY_LENGTH 1u    /* the key does not have 32 bytes: give h and then K */
+#define MIRROR_REFUSED_SECTOR_SIZE 2u   /* the size is not a multiple of 16 from 16 to 4,096: give the size that the sector or the
+                                           volume was made with */
+#define MIRROR_REFUSED_OTHER_LENGTH 3u  /* a plaintext, a sector, a tag or an output has another length than it must have: give s bytes,
+                                           16 for a tag */
+#define MIRROR_REFUSED_UNKNOWN_SIDE 4u  /* the side is neither MIRROR_SIDE_LOCAL nor MIRROR_SIDE_REMOTE: name one of them */
+#define MIRROR_REFUSED_NONE_FITS 5u     /* no plaintext fits this side and this tag: try the other side, or judge if both are there */
+#define MIRROR_REFUSED_LOST 6u          /* no plaintext fits two places: check the key on other sectors; if it is right, blank, and write
+                                           from a backup */
+#define MIRROR_REFUSED_CLASHING 7u      /* more than one plaintext fits two places: if a write was under way, go on with its second and
+                                           third stage (if the second refuses 10, see "After a cut in a write" below); otherwise open
+                                           each side, combine both, choose, blank, and write the choice */
+#define MIRROR_REFUSED_VOLUME_SHAPE 8u  /* n is not 1 to 65,536, or an image has another length than s and n ask for: check s, n and the
+                                           images */
+#define MIRROR_REFUSED_SECTOR_NUMBER 9u /* the number is not below n: sectors count from 0 */
+#define MIRROR_REFUSED_STAGE_ORDER 10u  /* this stage is not due: read the sector, mend it if doubtful, and begin with the first stage */
+#define MIRROR_REFUSED_LIST_LENGTH 11u  /* the list is shorter than n: lend one entry for each sector */
 
 /* What a survey puts into counts[]: four counts that add up to n, and the health, which is whole * 1000 / n, rounded down. */
 #define MIRROR_COUNT_WHOLE 0
@@ -109,7 +131,7 @@
 #define MIRROR_COUNT_CLASHING 2
 #define MIRROR_COUNT_LOST 3
 #define MIRROR_COUNT_HEALTH 4
-#define MIRROR_COUNTS 5
+#define MIRROR_COUNTS_LENGTH 5
 
 /* An answer that nobody looks at is a mistake, and the compiler says so where it can. */
 #if defined(__GNUC__)
@@ -122,17 +144,24 @@
 extern "C" {
 #endif
 
-/* ---- one sector. Mind the order: seal takes local, remote, tag; judge takes local, tag, remote. */
+/*
+ * The MIRROR_VERSION of the library that is linked. A program that was compiled with the header of one release and linked with the library
+ * of another may call functions with arguments in another order, and nothing else tells it. So look once, before the first call:
+ *   if (mirror_version() != MIRROR_VERSION) return -1;
+ */
+uint32_t mirror_version(void);
+
+/* ---- one sector. Every call takes its places in the order local, tag, remote. */
 
 /*
- * Seals the plaintext under key and address: writes local, remote and tag.
+ * Seals the plaintext under key and address: writes local, tag and remote.
  *   1 key_len is not 32
  *   2 plain_len is not a sector size
  *   3 local_len or remote_len is not plain_len, or tag_len is not 16
  *   MIRROR_DONE
  */
 MIRROR_ANSWER mirror_seal(const uint8_t *key, size_t key_len, uint64_t address, const uint8_t *plain, size_t plain_len, uint8_t *local,
-                          size_t local_len, uint8_t *remote, size_t remote_len, uint8_t *tag, size_t tag_len);
+                          size_t local_len, uint8_t *tag, size_t tag_len, uint8_t *remote, size_t remote_len);
 
 /*
  * Judges a sector and writes its plaintext to out. It mends nothing: after MIRROR_DOUBTFUL_... seal the plaintext again, and write the
@@ -152,7 +181,7 @@ MIRROR_ANSWER mirror_judge(const uint8_t *key, size_t key_len, uint64_t address,
  *   1 key_len is not 32
  *   2 sector_len is not a sector size
  *   3 tag_len is not 16, or out_len is not sector_len
- *   4 side is neither MIRROR_LOCAL nor MIRROR_REMOTE
+ *   4 side is neither MIRROR_SIDE_LOCAL nor MIRROR_SIDE_REMOTE
  *   5 no plaintext fits both
  *   MIRROR_DONE
  */
@@ -177,7 +206,8 @@ MIRROR_ANSWER mirror_rebuild(const uint8_t *key, size_t key_len, uint64_t addres
 MIRROR_ANSWER mirror_combine(const uint8_t *local, size_t local_len, const uint8_t *remote, size_t remote_len, uint8_t *out,
                              size_t out_len);
 
-/* ---- a volume. All images are lent to every call, whole; a call may write only those that it takes without const. */
+/* ---- a volume. All images are lent to every call, whole; a call may write only those that it takes without const. struct mirror_volume
+ * below saves the repeated arguments. */
 
 /*
  * Blanks one sector: seals a plaintext of s zeros into its part of all three images, whatever was there. Each sector of a new volume is
@@ -256,7 +286,133 @@ MIRROR_ANSWER mirror_mend(const uint8_t *key, size_t key_len, size_t s, size_t n
  */
 MIRROR_ANSWER mirror_survey(const uint8_t *key, size_t key_len, size_t s, size_t n, const uint8_t *local, size_t local_len,
                             const uint8_t *tags, size_t tags_len, const uint8_t *remote, size_t remote_len, uint32_t *list,
-                            size_t list_len, uint64_t counts[MIRROR_COUNTS]);
+                            size_t list_len, uint64_t counts[MIRROR_COUNTS_LENGTH]);
+
+/* ---- written in this header, over the calls above */
+
+/*
+ * A text for an answer; for a refusal it says what is wrong, and behind a colon what to do. The size in it is s, and the count is n. Any
+ * number has a text, also one that no call answers; it is never NULL, and nothing is to be freed.
+ */
+static inline const char *mirror_text(uint32_t answer)
+{
+    switch (answer) {
+    case MIRROR_DONE: /* and MIRROR_WHOLE */
+        return "done, or whole";
+    case MIRROR_REFUSED_KEY_LENGTH:
+        return "the key does not have 32 bytes: give the hash key and then the AES key, 16 bytes each";
+    case MIRROR_REFUSED_SECTOR_SIZE:
+        return "the size is not a multiple of 16 from 16 to 4,096: give the size that the sector or the volume was made with";
+    case MIRROR_REFUSED_OTHER_LENGTH:
+        return "a plaintext, a sector, a tag or an output has another length than it must have: "
+               "give as many bytes as the sector's size, and 16 for a tag";
+    case MIRROR_REFUSED_UNKNOWN_SIDE:
+        return "the side is neither 0 (local) nor 1 (remote): name one of the two";
+    case MIRROR_REFUSED_NONE_FITS:
+        return "no plaintext fits this side and this tag: try the other side, or judge the sector if both are there";
+    case MIRROR_REFUSED_LOST:
+        return "lost, no plaintext fits two places: "
+               "see by other sectors whether the key is right; if it is, blank the sector and write it from a backup";
+    case MIRROR_REFUSED_CLASHING:
+        return "clashing, more than one plaintext fits two places: "
+               "if a write was under way, go on with its second and third stage "
+               "(if the second refuses, rebuild the local sector from the remote side); "
+               "otherwise open each side and combine both, choose, blank the sector and write the choice";
+    case MIRROR_REFUSED_VOLUME_SHAPE:
+        return "the count is not 1 to 65,536, or an image has another length than size and count ask for: "
+               "check the size, the count and the three images";
+    case MIRROR_REFUSED_SECTOR_NUMBER:
+        return "the sector's number is not below the count: sectors count from 0, so give a number below the count";
+    case MIRROR_REFUSED_STAGE_ORDER:
+        return "this stage is not due: read the sector, mend it if it is doubtful, and begin again with the first stage";
+    case MIRROR_REFUSED_LIST_LENGTH:
+        return "the list is shorter than the count: lend one entry for each sector";
+    case MIRROR_DOUBTFUL_LOCAL:
+        return "doubtful at the local sector";
+    case MIRROR_DOUBTFUL_TAG:
+        return "doubtful at the tag";
+    case MIRROR_DOUBTFUL_REMOTE:
+        return "doubtful at the remote sector";
+    default:
+        return "no answer of this library: link the release that the header is of";
+    }
+}
+
+/*
+ * A volume: what every call on it is given, named once, in the order of the calls' arguments. Each function below is the call of its name,
+ * with the same answers, and the same is asked of the caller. Nothing is checked when the struct is filled: each call checks it whole.
+ * It has the pointers alone, so key and images stay where they are as long as it is used. Lengths are in bytes.
+ *
+ *   C99:    struct mirror_volume v = {.key = key, .key_len = sizeof key, .s = 512, .n = 4, .local = local, .local_len = sizeof local,
+ *                                     .tags = tags, .tags_len = sizeof tags, .remote = remote, .remote_len = sizeof remote};
+ *   C++11:  mirror_volume v = {key, sizeof key, 512, 4, local, sizeof local, tags, sizeof tags, remote, sizeof remote};
+ *           or assign the fields: mirror_volume v = {}; v.key = key; ...
+ *   both:   uint32_t answer = mirror_volume_blank(&v, 2);
+ *           if (answer != MIRROR_DONE) fprintf(stderr, "sector 2: %s\n", mirror_text(answer));
+ *
+ * A field that is left out of such a list is 0, and a length, s or n of 0 is refused. The images are without const, since most calls
+ * write; for images that may only be read call mirror_read and mirror_survey themselves.
+ */
+struct mirror_volume {
+    const uint8_t *key;
+    size_t key_len;
+    size_t s; /* the bytes of a sector */
+    size_t n; /* the sectors */
+    uint8_t *local;
+    size_t local_len;
+    uint8_t *tags;
+    size_t tags_len;
+    uint8_t *remote;
+    size_t remote_len;
+};
+
+/* mirror_blank: a new sector of zeros. */
+static inline MIRROR_ANSWER mirror_volume_blank(const struct mirror_volume *v, size_t number)
+{
+    return mirror_blank(v->key, v->key_len, v->s, v->n, number, v->local, v->local_len, v->tags, v->tags_len, v->remote, v->remote_len);
+}
+
+/* mirror_first_stage: writes the local sector. Write it out and flush it before the second stage. */
+static inline MIRROR_ANSWER mirror_volume_first_stage(const struct mirror_volume *v, size_t number, const uint8_t *plain, size_t plain_len)
+{
+    return mirror_first_stage(v->key, v->key_len, v->s, v->n, number, plain, plain_len, v->local, v->local_len, v->tags, v->tags_len,
+                              v->remote, v->remote_len);
+}
+
+/* mirror_second_stage: writes the tag. Write it out and flush it before the third stage. */
+static inline MIRROR_ANSWER mirror_volume_second_stage(const struct mirror_volume *v, size_t number, const uint8_t *plain, size_t plain_len)
+{
+    return mirror_second_stage(v->key, v->key_len, v->s, v->n, number, plain, plain_len, v->local, v->local_len, v->tags, v->tags_len,
+                               v->remote, v->remote_len);
+}
+
+/* mirror_third_stage: writes the remote sector. Write it out and flush it before the next call. */
+static inline MIRROR_ANSWER mirror_volume_third_stage(const struct mirror_volume *v, size_t number, const uint8_t *plain, size_t plain_len)
+{
+    return mirror_third_stage(v->key, v->key_len, v->s, v->n, number, plain, plain_len, v->local, v->local_len, v->tags, v->tags_len,
+                              v->remote, v->remote_len);
+}
+
+/* mirror_read: the plaintext goes to out, which no image overlaps. */
+static inline MIRROR_ANSWER mirror_volume_read(const struct mirror_volume *v, size_t number, uint8_t *out, size_t out_len)
+{
+    return mirror_read(v->key, v->key_len, v->s, v->n, number, v->local, v->local_len, v->tags, v->tags_len, v->remote, v->remote_len, out,
+                       out_len);
+}
+
+/* mirror_mend: writes the place that the answer names. Write it out and flush it. */
+static inline MIRROR_ANSWER mirror_volume_mend(const struct mirror_volume *v, size_t number)
+{
+    return mirror_mend(v->key, v->key_len, v->s, v->n, number, v->local, v->local_len, v->tags, v->tags_len, v->remote, v->remote_len);
+}
+
+/* mirror_survey: the numbers of the sectors that are not whole go to list, which has n entries or more. */
+static inline MIRROR_ANSWER mirror_volume_survey(const struct mirror_volume *v, uint32_t *list, size_t list_len,
+                                                 uint64_t counts[MIRROR_COUNTS_LENGTH])
+{
+    return mirror_survey(v->key, v->key_len, v->s, v->n, v->local, v->local_len, v->tags, v->tags_len, v->remote, v->remote_len, list,
+                         list_len, counts);
+}
 
 #ifdef __cplusplus
 }

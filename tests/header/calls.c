@@ -2,11 +2,15 @@
  * Every call of mirror.h, every answer, and every byte that is lent: what a call writes must be what is due, and the rest as it was.
  * Compiles as C99 and as C++11. Each buffer is on the heap with its exact length, so that valgrind sees a step beside it.
  */
-#include "mirror.h"
+#include "checks.h"
 
 #include <stdio.h>
 #include <stdlib.h>
 #include <string.h>
+
+#if MIRROR_VERSION < 1000
+#error "MIRROR_VERSION is below that of the first release, 0.1.0"
+#endif
 
 enum { SIZE = 32, COUNT = 3, ENTRIES = COUNT + 1, BUFFERS = 11 };
 static const uint64_t ADDRESS = 0x0102030405060708;
@@ -14,17 +18,17 @@ static const uint64_t ADDRESS = 0x0102030405060708;
 /* The sealing of the bytes 80 to 9f (hexadecimal) under the key 00 to 1f at ADDRESS, by the independent implementation. */
 static const uint8_t STORED_LOCAL[SIZE] = {0x8f, 0xb4, 0x0d, 0xfc, 0x03, 0xdd, 0x5c, 0xe2, 0x3b, 0x20, 0xab, 0x42, 0x10, 0x44, 0x72, 0x01,
                                            0xf4, 0xbe, 0x61, 0x01, 0x7a, 0x96, 0xb5, 0xda, 0x7d, 0x3c, 0x4e, 0xf0, 0x26, 0x7e, 0x1d, 0x13};
-static const uint8_t STORED_REMOTE[SIZE] = {0x0f, 0x35, 0x8f, 0x7f, 0x87, 0x58, 0xda, 0x65, 0xb3, 0xa9, 0x21, 0xc9, 0x9c, 0xc9, 0xfc, 0x8e,
-                                            0x64, 0x2f, 0xf3, 0x92, 0xee, 0x03, 0x23, 0x4d, 0xe5, 0xa5, 0xd4, 0x6b, 0xba, 0xe3, 0x83, 0x8c};
 static const uint8_t STORED_TAG[MIRROR_TAG_BYTES] = {0xdf, 0x77, 0x7e, 0xb3, 0xbd, 0xba, 0xf5, 0x31,
                                                      0xfd, 0x6e, 0x59, 0x59, 0xb4, 0x27, 0x3a, 0xac};
+static const uint8_t STORED_REMOTE[SIZE] = {0x0f, 0x35, 0x8f, 0x7f, 0x87, 0x58, 0xda, 0x65, 0xb3, 0xa9, 0x21, 0xc9, 0x9c, 0xc9, 0xfc, 0x8e,
+                                            0x64, 0x2f, 0xf3, 0x92, 0xee, 0x03, 0x23, 0x4d, 0xe5, 0xa5, 0xd4, 0x6b, 0xba, 0xe3, 0x83, 0x8c};
 
 /* ---- checks */
 
 static unsigned checks;
 static unsigned char met[256];
 
-static void check(int holds, int line, const char *text, const char *what)
+void check(int holds, int line, const char *text, const char *what)
 {
     checks++;
     if (!holds) {
@@ -52,7 +56,7 @@ typedef struct {
 static Lent lent[BUFFERS];
 static size_t lents;
 
-static uint8_t *heap(size_t length)
+uint8_t *heap(size_t length)
 {
     uint8_t *at = (uint8_t *)malloc(length);
     if (at == NULL) {
@@ -73,7 +77,7 @@ static uint8_t *lend(const char *name, size_t length)
     return l->at;
 }
 
-static uint8_t *key, *plain, *local, *remote, *tag, *out, *locals, *tags, *remotes, *list_bytes, *count_bytes;
+static uint8_t *key, *plain, *local, *tag, *remote, *out, *locals, *tags, *remotes, *list_bytes, *count_bytes;
 static uint32_t *list;
 static uint64_t *counts;
 
@@ -123,8 +127,8 @@ static void as_due(int line, const char *call)
 #define KEY key, MIRROR_KEY_BYTES
 #define PLAIN plain, SIZE
 #define LOCAL local, SIZE
-#define REMOTE remote, SIZE
 #define TAG tag, MIRROR_TAG_BYTES
+#define REMOTE remote, SIZE
 #define OUT out, SIZE
 #define LOCALS locals, COUNT *SIZE
 #define TAGS tags, COUNT *MIRROR_TAG_BYTES
@@ -136,14 +140,14 @@ static void lend_all(void)
     key = lend("the key", MIRROR_KEY_BYTES);
     plain = lend("the plaintext", SIZE);
     local = lend("the local sector", SIZE);
-    remote = lend("the remote sector", SIZE);
     tag = lend("the tag", MIRROR_TAG_BYTES);
+    remote = lend("the remote sector", SIZE);
     out = lend("the output", SIZE);
     locals = lend("the local image", COUNT * SIZE);
     tags = lend("the tag image", COUNT * MIRROR_TAG_BYTES);
     remotes = lend("the remote image", COUNT * SIZE);
     list_bytes = lend("the list", ENTRIES * sizeof(uint32_t));
-    count_bytes = lend("the counts", MIRROR_COUNTS * sizeof(uint64_t));
+    count_bytes = lend("the counts", MIRROR_COUNTS_LENGTH * sizeof(uint64_t));
     list = (uint32_t *)(void *)list_bytes;
     counts = (uint64_t *)(void *)count_bytes;
 }
@@ -156,10 +160,10 @@ static void fill(uint8_t *at, size_t length, unsigned first)
     }
 }
 
-/* Puts the sealing of `plain` at this address into local, remote and tag. */
+/* Puts the sealing of `plain` at this address into local, tag and remote. */
 static void sealed(uint64_t address)
 {
-    answers(MIRROR_DONE, mirror_seal(KEY, address, PLAIN, LOCAL, REMOTE, TAG), __LINE__, "sealing");
+    answers(MIRROR_DONE, mirror_seal(KEY, address, PLAIN, LOCAL, TAG, REMOTE), __LINE__, "sealing");
 }
 
 /* The plaintexts (h, 0) and (h, 1) have one tag: the local sector of the second with the remote sector of the first clash. */
@@ -177,22 +181,101 @@ static void clash(uint64_t address)
     memcpy(remote, first, SIZE);
 }
 
+/* ---- constants, version and texts */
+
+/* The value of a constant, which a program may have stored. */
+#define IS(constant, value) check((unsigned long)(constant) == (unsigned long)(value), __LINE__, #constant, "has another value")
+
+static void constants(void)
+{
+    IS(MIRROR_KEY_BYTES, 32);
+    IS(MIRROR_TAG_BYTES, 16);
+    IS(MIRROR_SECTOR_BYTES_MIN, 16);
+    IS(MIRROR_SECTOR_BYTES_MAX, 4096);
+    IS(MIRROR_VOLUME_SECTORS_MAX, 65536);
+    IS(MIRROR_STACK_BYTES, 20480);
+    IS(MIRROR_SIDE_LOCAL, 0);
+    IS(MIRROR_SIDE_REMOTE, 1);
+    IS(MIRROR_DONE, 0);
+    IS(MIRROR_WHOLE, 0);
+    IS(MIRROR_DOUBTFUL_LOCAL, 0x81);
+    IS(MIRROR_DOUBTFUL_TAG, 0x82);
+    IS(MIRROR_DOUBTFUL_REMOTE, 0x83);
+    IS(MIRROR_COUNT_WHOLE, 0);
+    IS(MIRROR_COUNT_DOUBTFUL, 1);
+    IS(MIRROR_COUNT_CLASHING, 2);
+    IS(MIRROR_COUNT_LOST, 3);
+    IS(MIRROR_COUNT_HEALTH, 4);
+    IS(MIRROR_COUNTS_LENGTH, 5);
+}
+
+static void refusals(void)
+{
+    IS(MIRROR_REFUSED_KEY_LENGTH, 1);
+    IS(MIRROR_REFUSED_SECTOR_SIZE, 2);
+    IS(MIRROR_REFUSED_OTHER_LENGTH, 3);
+    IS(MIRROR_REFUSED_UNKNOWN_SIDE, 4);
+    IS(MIRROR_REFUSED_NONE_FITS, 5);
+    IS(MIRROR_REFUSED_LOST, 6);
+    IS(MIRROR_REFUSED_CLASHING, 7);
+    IS(MIRROR_REFUSED_VOLUME_SHAPE, 8);
+    IS(MIRROR_REFUSED_SECTOR_NUMBER, 9);
+    IS(MIRROR_REFUSED_STAGE_ORDER, 10);
+    IS(MIRROR_REFUSED_LIST_LENGTH, 11);
+}
+
+/* Header and library are of one release, and the header's number and text are. */
+static void version(void)
+{
+    const unsigned long number = MIRROR_VERSION;
+    char text[64];
+    check(mirror_version() == MIRROR_VERSION, __LINE__, "mirror_version", "the library is of another release than the header");
+    sprintf(text, "%lu.%lu.%lu", number / 1000000, number / 1000 % 1000, number % 1000);
+    check(strcmp(text, MIRROR_VERSION_TEXT) == 0, __LINE__, "MIRROR_VERSION_TEXT", "is of another release than MIRROR_VERSION");
+    printf("calls: mirror_version, %s\n", text);
+}
+
+static int is_answer(uint32_t number)
+{
+    return number <= MIRROR_REFUSED_LIST_LENGTH || (number >= MIRROR_DOUBTFUL_LOCAL && number <= MIRROR_DOUBTFUL_REMOTE);
+}
+
+/* Answers have texts of their own (texts.c prints them), and all other numbers one text: all below 1000, and some beyond. */
+static void texts(void)
+{
+    static const uint32_t BEYOND[] = {1000, 0x8000, 0x10000, 0x10001, 0x7fffffff, 0x80000000, 0x80000001, 0xffffff81, 0xffffffff};
+    const char *const unknown = "no answer of this library: link the release that the header is of";
+    uint32_t number, other;
+    size_t i;
+    for (number = 0; number < 1000; number++) {
+        const int has_none = strcmp(mirror_text(number), unknown) == 0;
+        check(has_none == !is_answer(number), __LINE__, "mirror_text", "takes another number for an answer");
+        for (other = 0; other < number && !has_none; other++) {
+            check(strcmp(mirror_text(number), mirror_text(other)) != 0, __LINE__, "mirror_text", "gives two answers one text");
+        }
+    }
+    for (i = 0; i < sizeof BEYOND / sizeof BEYOND[0]; i++) {
+        check(strcmp(mirror_text(BEYOND[i]), unknown) == 0, __LINE__, "mirror_text", "takes a number beyond for an answer");
+    }
+    puts("calls: mirror_text");
+}
+
 /* ---- one sector */
 
 static void seals(void)
 {
-    GIVES(MIRROR_DONE, mirror_seal(KEY, ADDRESS, PLAIN, LOCAL, REMOTE, TAG));
+    GIVES(MIRROR_DONE, mirror_seal(KEY, ADDRESS, PLAIN, LOCAL, TAG, REMOTE));
     DUE(local, STORED_LOCAL, SIZE);
-    DUE(remote, STORED_REMOTE, SIZE);
     DUE(tag, STORED_TAG, MIRROR_TAG_BYTES);
+    DUE(remote, STORED_REMOTE, SIZE);
     NO_MORE("mirror_seal");
-    REFUSES(MIRROR_KEY_LENGTH, mirror_seal(NOTHING, ADDRESS, NOTHING, NOTHING, NOTHING, NOTHING));
-    REFUSES(MIRROR_KEY_LENGTH, mirror_seal(key, 31, ADDRESS, PLAIN, LOCAL, REMOTE, TAG));
-    REFUSES(MIRROR_SECTOR_SIZE, mirror_seal(KEY, ADDRESS, NOTHING, NOTHING, NOTHING, NOTHING));
-    REFUSES(MIRROR_SECTOR_SIZE, mirror_seal(KEY, ADDRESS, plain, 15, local, 15, remote, 15, TAG));
-    REFUSES(MIRROR_OTHER_LENGTH, mirror_seal(KEY, ADDRESS, PLAIN, NOTHING, REMOTE, TAG));
-    REFUSES(MIRROR_OTHER_LENGTH, mirror_seal(KEY, ADDRESS, PLAIN, LOCAL, remote, 16, TAG));
-    REFUSES(MIRROR_OTHER_LENGTH, mirror_seal(KEY, ADDRESS, PLAIN, LOCAL, REMOTE, tag, 15));
+    REFUSES(MIRROR_REFUSED_KEY_LENGTH, mirror_seal(NOTHING, ADDRESS, NOTHING, NOTHING, NOTHING, NOTHING));
+    REFUSES(MIRROR_REFUSED_KEY_LENGTH, mirror_seal(key, 31, ADDRESS, PLAIN, LOCAL, TAG, REMOTE));
+    REFUSES(MIRROR_REFUSED_SECTOR_SIZE, mirror_seal(KEY, ADDRESS, NOTHING, NOTHING, NOTHING, NOTHING));
+    REFUSES(MIRROR_REFUSED_SECTOR_SIZE, mirror_seal(KEY, ADDRESS, plain, 15, local, 15, TAG, remote, 15));
+    REFUSES(MIRROR_REFUSED_OTHER_LENGTH, mirror_seal(KEY, ADDRESS, PLAIN, NOTHING, TAG, REMOTE));
+    REFUSES(MIRROR_REFUSED_OTHER_LENGTH, mirror_seal(KEY, ADDRESS, PLAIN, LOCAL, TAG, remote, 16));
+    REFUSES(MIRROR_REFUSED_OTHER_LENGTH, mirror_seal(KEY, ADDRESS, PLAIN, LOCAL, tag, 15, REMOTE));
     puts("calls: mirror_seal");
 }
 
@@ -214,45 +297,45 @@ static void judges(void)
     judges_damaged(local, MIRROR_DOUBTFUL_LOCAL);
     judges_damaged(tag, MIRROR_DOUBTFUL_TAG);
     judges_damaged(remote, MIRROR_DOUBTFUL_REMOTE);
-    REFUSES(MIRROR_LOST, mirror_judge(KEY, ADDRESS + 1, LOCAL, TAG, REMOTE, OUT));
-    REFUSES(MIRROR_KEY_LENGTH, mirror_judge(NOTHING, ADDRESS, NOTHING, NOTHING, NOTHING, NOTHING));
-    REFUSES(MIRROR_SECTOR_SIZE, mirror_judge(KEY, ADDRESS, NOTHING, TAG, REMOTE, OUT));
-    REFUSES(MIRROR_OTHER_LENGTH, mirror_judge(KEY, ADDRESS, LOCAL, NOTHING, REMOTE, OUT));
-    REFUSES(MIRROR_OTHER_LENGTH, mirror_judge(KEY, ADDRESS, LOCAL, TAG, NOTHING, OUT));
-    REFUSES(MIRROR_OTHER_LENGTH, mirror_judge(KEY, ADDRESS, LOCAL, TAG, REMOTE, NOTHING));
+    REFUSES(MIRROR_REFUSED_LOST, mirror_judge(KEY, ADDRESS + 1, LOCAL, TAG, REMOTE, OUT));
+    REFUSES(MIRROR_REFUSED_KEY_LENGTH, mirror_judge(NOTHING, ADDRESS, NOTHING, NOTHING, NOTHING, NOTHING));
+    REFUSES(MIRROR_REFUSED_SECTOR_SIZE, mirror_judge(KEY, ADDRESS, NOTHING, TAG, REMOTE, OUT));
+    REFUSES(MIRROR_REFUSED_OTHER_LENGTH, mirror_judge(KEY, ADDRESS, LOCAL, NOTHING, REMOTE, OUT));
+    REFUSES(MIRROR_REFUSED_OTHER_LENGTH, mirror_judge(KEY, ADDRESS, LOCAL, TAG, NOTHING, OUT));
+    REFUSES(MIRROR_REFUSED_OTHER_LENGTH, mirror_judge(KEY, ADDRESS, LOCAL, TAG, REMOTE, NOTHING));
     puts("calls: mirror_judge");
 }
 
 static void opens(void)
 {
-    GIVES(MIRROR_DONE, mirror_open(KEY, ADDRESS, MIRROR_LOCAL, LOCAL, TAG, OUT));
+    GIVES(MIRROR_DONE, mirror_open(KEY, ADDRESS, MIRROR_SIDE_LOCAL, LOCAL, TAG, OUT));
     DUE(out, plain, SIZE);
     NO_MORE("mirror_open");
-    GIVES(MIRROR_DONE, mirror_open(KEY, ADDRESS, MIRROR_REMOTE, REMOTE, TAG, OUT));
+    GIVES(MIRROR_DONE, mirror_open(KEY, ADDRESS, MIRROR_SIDE_REMOTE, REMOTE, TAG, OUT));
     DUE(out, plain, SIZE);
     NO_MORE("mirror_open");
-    REFUSES(MIRROR_NONE_FITS, mirror_open(KEY, ADDRESS, MIRROR_REMOTE, LOCAL, TAG, OUT));
-    REFUSES(MIRROR_UNKNOWN_SIDE, mirror_open(KEY, ADDRESS, 2, LOCAL, TAG, OUT));
-    REFUSES(MIRROR_OTHER_LENGTH, mirror_open(KEY, ADDRESS, 2, LOCAL, NOTHING, OUT));
-    REFUSES(MIRROR_OTHER_LENGTH, mirror_open(KEY, ADDRESS, 2, LOCAL, TAG, NOTHING));
-    REFUSES(MIRROR_SECTOR_SIZE, mirror_open(KEY, ADDRESS, 2, NOTHING, NOTHING, NOTHING));
-    REFUSES(MIRROR_KEY_LENGTH, mirror_open(NOTHING, ADDRESS, 2, NOTHING, NOTHING, NOTHING));
+    REFUSES(MIRROR_REFUSED_NONE_FITS, mirror_open(KEY, ADDRESS, MIRROR_SIDE_REMOTE, LOCAL, TAG, OUT));
+    REFUSES(MIRROR_REFUSED_UNKNOWN_SIDE, mirror_open(KEY, ADDRESS, 2, LOCAL, TAG, OUT));
+    REFUSES(MIRROR_REFUSED_OTHER_LENGTH, mirror_open(KEY, ADDRESS, 2, LOCAL, NOTHING, OUT));
+    REFUSES(MIRROR_REFUSED_OTHER_LENGTH, mirror_open(KEY, ADDRESS, 2, LOCAL, TAG, NOTHING));
+    REFUSES(MIRROR_REFUSED_SECTOR_SIZE, mirror_open(KEY, ADDRESS, 2, NOTHING, NOTHING, NOTHING));
+    REFUSES(MIRROR_REFUSED_KEY_LENGTH, mirror_open(NOTHING, ADDRESS, 2, NOTHING, NOTHING, NOTHING));
     puts("calls: mirror_open");
 }
 
 static void rebuilds(void)
 {
-    GIVES(MIRROR_DONE, mirror_rebuild(KEY, ADDRESS, MIRROR_LOCAL, LOCAL, TAG, OUT));
+    GIVES(MIRROR_DONE, mirror_rebuild(KEY, ADDRESS, MIRROR_SIDE_LOCAL, LOCAL, TAG, OUT));
     DUE(out, STORED_REMOTE, SIZE);
     NO_MORE("mirror_rebuild");
-    GIVES(MIRROR_DONE, mirror_rebuild(KEY, ADDRESS, MIRROR_REMOTE, REMOTE, TAG, OUT));
+    GIVES(MIRROR_DONE, mirror_rebuild(KEY, ADDRESS, MIRROR_SIDE_REMOTE, REMOTE, TAG, OUT));
     DUE(out, STORED_LOCAL, SIZE);
     NO_MORE("mirror_rebuild");
-    REFUSES(MIRROR_NONE_FITS, mirror_rebuild(KEY, ADDRESS, MIRROR_LOCAL, REMOTE, TAG, OUT));
-    REFUSES(MIRROR_UNKNOWN_SIDE, mirror_rebuild(KEY, ADDRESS, 0xffffffff, LOCAL, TAG, OUT));
-    REFUSES(MIRROR_OTHER_LENGTH, mirror_rebuild(KEY, ADDRESS, 2, LOCAL, TAG, out, 16));
-    REFUSES(MIRROR_SECTOR_SIZE, mirror_rebuild(KEY, ADDRESS, 2, NOTHING, TAG, OUT));
-    REFUSES(MIRROR_KEY_LENGTH, mirror_rebuild(NOTHING, ADDRESS, 2, NOTHING, TAG, OUT));
+    REFUSES(MIRROR_REFUSED_NONE_FITS, mirror_rebuild(KEY, ADDRESS, MIRROR_SIDE_LOCAL, REMOTE, TAG, OUT));
+    REFUSES(MIRROR_REFUSED_UNKNOWN_SIDE, mirror_rebuild(KEY, ADDRESS, 0xffffffff, LOCAL, TAG, OUT));
+    REFUSES(MIRROR_REFUSED_OTHER_LENGTH, mirror_rebuild(KEY, ADDRESS, 2, LOCAL, TAG, out, 16));
+    REFUSES(MIRROR_REFUSED_SECTOR_SIZE, mirror_rebuild(KEY, ADDRESS, 2, NOTHING, TAG, OUT));
+    REFUSES(MIRROR_REFUSED_KEY_LENGTH, mirror_rebuild(NOTHING, ADDRESS, 2, NOTHING, TAG, OUT));
     puts("calls: mirror_rebuild");
 }
 
@@ -266,21 +349,21 @@ static void combines(void)
     GIVES(MIRROR_DONE, mirror_combine(LOCAL, LOCAL, OUT));
     DUE(out, zeros, SIZE);
     NO_MORE("mirror_combine of one buffer lent twice");
-    REFUSES(MIRROR_SECTOR_SIZE, mirror_combine(NOTHING, NOTHING, NOTHING));
-    REFUSES(MIRROR_OTHER_LENGTH, mirror_combine(LOCAL, NOTHING, OUT));
-    REFUSES(MIRROR_OTHER_LENGTH, mirror_combine(LOCAL, REMOTE, NOTHING));
+    REFUSES(MIRROR_REFUSED_SECTOR_SIZE, mirror_combine(NOTHING, NOTHING, NOTHING));
+    REFUSES(MIRROR_REFUSED_OTHER_LENGTH, mirror_combine(LOCAL, NOTHING, OUT));
+    REFUSES(MIRROR_REFUSED_OTHER_LENGTH, mirror_combine(LOCAL, REMOTE, NOTHING));
     puts("calls: mirror_combine");
 }
 
 static void clashes(void)
 {
     clash(ADDRESS);
-    REFUSES(MIRROR_CLASHING, mirror_judge(KEY, ADDRESS, LOCAL, TAG, REMOTE, OUT));
-    GIVES(MIRROR_DONE, mirror_open(KEY, ADDRESS, MIRROR_LOCAL, LOCAL, TAG, OUT));
+    REFUSES(MIRROR_REFUSED_CLASHING, mirror_judge(KEY, ADDRESS, LOCAL, TAG, REMOTE, OUT));
+    GIVES(MIRROR_DONE, mirror_open(KEY, ADDRESS, MIRROR_SIDE_LOCAL, LOCAL, TAG, OUT));
     DUE(out, plain, SIZE);
     NO_MORE("mirror_open of a clashing sector");
     plain[SIZE - 1] = 0;
-    GIVES(MIRROR_DONE, mirror_open(KEY, ADDRESS, MIRROR_REMOTE, REMOTE, TAG, OUT));
+    GIVES(MIRROR_DONE, mirror_open(KEY, ADDRESS, MIRROR_SIDE_REMOTE, REMOTE, TAG, OUT));
     DUE(out, plain, SIZE);
     NO_MORE("mirror_open of a clashing sector");
 }
@@ -290,7 +373,7 @@ static void at_size(size_t size)
 {
     uint8_t *p = heap(size), *l = heap(size), *r = heap(size), *o = heap(size);
     fill(p, size, 9);
-    answers(MIRROR_DONE, mirror_seal(KEY, 0, p, size, l, size, r, size, TAG), __LINE__, "sealing another size");
+    answers(MIRROR_DONE, mirror_seal(KEY, 0, p, size, l, size, TAG, r, size), __LINE__, "sealing another size");
     answers(MIRROR_WHOLE, mirror_judge(KEY, 0, l, size, TAG, r, size, o, size), __LINE__, "judging another size");
     check(memcmp(o, p, size) == 0, __LINE__, "judging another size", "gives another plaintext");
     memset(o, 0, size);
@@ -335,15 +418,15 @@ static void blanks(void)
         due_part(number);
         NO_MORE("mirror_blank");
     }
-    REFUSES(MIRROR_SECTOR_NUMBER, mirror_blank(VOLUME, COUNT, IMAGES));
-    REFUSES(MIRROR_VOLUME_SHAPE, mirror_blank(KEY, SIZE, 0, COUNT, NOTHING, NOTHING, NOTHING));
-    REFUSES(MIRROR_VOLUME_SHAPE, mirror_blank(KEY, SIZE, MIRROR_MOST_SECTORS + 1, 0, IMAGES));
-    REFUSES(MIRROR_VOLUME_SHAPE, mirror_blank(VOLUME, COUNT, NOTHING, TAGS, REMOTES));
-    REFUSES(MIRROR_VOLUME_SHAPE, mirror_blank(VOLUME, COUNT, LOCALS, NOTHING, REMOTES));
-    REFUSES(MIRROR_VOLUME_SHAPE, mirror_blank(VOLUME, COUNT, LOCALS, TAGS, remotes, SIZE));
-    REFUSES(MIRROR_SECTOR_SIZE, mirror_blank(KEY, 15, 0, COUNT, IMAGES));
-    REFUSES(MIRROR_SECTOR_SIZE, mirror_blank(KEY, 4112, 0, COUNT, IMAGES));
-    REFUSES(MIRROR_KEY_LENGTH, mirror_blank(NOTHING, 15, 0, COUNT, NOTHING, NOTHING, NOTHING));
+    REFUSES(MIRROR_REFUSED_SECTOR_NUMBER, mirror_blank(VOLUME, COUNT, IMAGES));
+    REFUSES(MIRROR_REFUSED_VOLUME_SHAPE, mirror_blank(KEY, SIZE, 0, COUNT, NOTHING, NOTHING, NOTHING));
+    REFUSES(MIRROR_REFUSED_VOLUME_SHAPE, mirror_blank(KEY, SIZE, MIRROR_VOLUME_SECTORS_MAX + 1, 0, IMAGES));
+    REFUSES(MIRROR_REFUSED_VOLUME_SHAPE, mirror_blank(VOLUME, COUNT, NOTHING, TAGS, REMOTES));
+    REFUSES(MIRROR_REFUSED_VOLUME_SHAPE, mirror_blank(VOLUME, COUNT, LOCALS, NOTHING, REMOTES));
+    REFUSES(MIRROR_REFUSED_VOLUME_SHAPE, mirror_blank(VOLUME, COUNT, LOCALS, TAGS, remotes, SIZE));
+    REFUSES(MIRROR_REFUSED_SECTOR_SIZE, mirror_blank(KEY, 15, 0, COUNT, IMAGES));
+    REFUSES(MIRROR_REFUSED_SECTOR_SIZE, mirror_blank(KEY, 4112, 0, COUNT, IMAGES));
+    REFUSES(MIRROR_REFUSED_KEY_LENGTH, mirror_blank(NOTHING, 15, 0, COUNT, NOTHING, NOTHING, NOTHING));
     puts("calls: mirror_blank");
 }
 
@@ -354,13 +437,13 @@ static void stages(void)
     memset(zeros, 0, SIZE);
     fill(plain, SIZE, 0x40);
     sealed(1);
-    REFUSES(MIRROR_STAGE_ORDER, mirror_second_stage(VOLUME, 1, PLAIN, IMAGES));
-    REFUSES(MIRROR_STAGE_ORDER, mirror_third_stage(VOLUME, 1, PLAIN, IMAGES));
+    REFUSES(MIRROR_REFUSED_STAGE_ORDER, mirror_second_stage(VOLUME, 1, PLAIN, IMAGES));
+    REFUSES(MIRROR_REFUSED_STAGE_ORDER, mirror_third_stage(VOLUME, 1, PLAIN, IMAGES));
     GIVES(MIRROR_DONE, mirror_first_stage(VOLUME, 1, PLAIN, IMAGES));
     DUE(locals + SIZE, local, SIZE);
     NO_MORE("mirror_first_stage");
-    REFUSES(MIRROR_STAGE_ORDER, mirror_first_stage(VOLUME, 1, PLAIN, IMAGES));
-    REFUSES(MIRROR_STAGE_ORDER, mirror_third_stage(VOLUME, 1, PLAIN, IMAGES));
+    REFUSES(MIRROR_REFUSED_STAGE_ORDER, mirror_first_stage(VOLUME, 1, PLAIN, IMAGES));
+    REFUSES(MIRROR_REFUSED_STAGE_ORDER, mirror_third_stage(VOLUME, 1, PLAIN, IMAGES));
     GIVES(MIRROR_DOUBTFUL_LOCAL, mirror_read(VOLUME, 1, IMAGES, OUT));
     DUE(out, zeros, SIZE);
     NO_MORE("mirror_read after the first stage");
@@ -378,9 +461,9 @@ static void stages(void)
 /* Reads and mends of sector 1 refuse while its write stands at a clash, and a first stage is not due. */
 static void clashes_between(void)
 {
-    REFUSES(MIRROR_CLASHING, mirror_read(VOLUME, 1, IMAGES, OUT));
-    REFUSES(MIRROR_CLASHING, mirror_mend(VOLUME, 1, IMAGES));
-    REFUSES(MIRROR_STAGE_ORDER, mirror_first_stage(VOLUME, 1, PLAIN, IMAGES));
+    REFUSES(MIRROR_REFUSED_CLASHING, mirror_read(VOLUME, 1, IMAGES, OUT));
+    REFUSES(MIRROR_REFUSED_CLASHING, mirror_mend(VOLUME, 1, IMAGES));
+    REFUSES(MIRROR_REFUSED_STAGE_ORDER, mirror_first_stage(VOLUME, 1, PLAIN, IMAGES));
 }
 
 /* A write of (h, 1) over (h, 0), which have one tag: between the stages both fit two places. The next stage is due all the same. */
@@ -423,12 +506,12 @@ static uint32_t third(size_t key_len, size_t s, size_t n, size_t number, const u
 
 static void stage_refuses(Stage stage, const char *name)
 {
-    REFUSES(MIRROR_OTHER_LENGTH, stage(MIRROR_KEY_BYTES, SIZE, COUNT, 1, NOTHING));
-    REFUSES(MIRROR_OTHER_LENGTH, stage(MIRROR_KEY_BYTES, SIZE, COUNT, 1, plain, 16));
-    REFUSES(MIRROR_SECTOR_NUMBER, stage(MIRROR_KEY_BYTES, SIZE, COUNT, COUNT, NOTHING));
-    REFUSES(MIRROR_VOLUME_SHAPE, stage(MIRROR_KEY_BYTES, SIZE, COUNT + 1, COUNT + 1, NOTHING));
-    REFUSES(MIRROR_SECTOR_SIZE, stage(MIRROR_KEY_BYTES, 0, COUNT + 1, COUNT + 1, NOTHING));
-    REFUSES(MIRROR_KEY_LENGTH, stage(0, 0, COUNT + 1, COUNT + 1, NOTHING));
+    REFUSES(MIRROR_REFUSED_OTHER_LENGTH, stage(MIRROR_KEY_BYTES, SIZE, COUNT, 1, NOTHING));
+    REFUSES(MIRROR_REFUSED_OTHER_LENGTH, stage(MIRROR_KEY_BYTES, SIZE, COUNT, 1, plain, 16));
+    REFUSES(MIRROR_REFUSED_SECTOR_NUMBER, stage(MIRROR_KEY_BYTES, SIZE, COUNT, COUNT, NOTHING));
+    REFUSES(MIRROR_REFUSED_VOLUME_SHAPE, stage(MIRROR_KEY_BYTES, SIZE, COUNT + 1, COUNT + 1, NOTHING));
+    REFUSES(MIRROR_REFUSED_SECTOR_SIZE, stage(MIRROR_KEY_BYTES, 0, COUNT + 1, COUNT + 1, NOTHING));
+    REFUSES(MIRROR_REFUSED_KEY_LENGTH, stage(0, 0, COUNT + 1, COUNT + 1, NOTHING));
     printf("calls: %s\n", name);
 }
 
@@ -437,11 +520,11 @@ static void reads(void)
     GIVES(MIRROR_WHOLE, mirror_read(VOLUME, 1, IMAGES, OUT));
     DUE(out, plain, SIZE);
     NO_MORE("mirror_read");
-    REFUSES(MIRROR_OTHER_LENGTH, mirror_read(VOLUME, 1, IMAGES, NOTHING));
-    REFUSES(MIRROR_SECTOR_NUMBER, mirror_read(VOLUME, COUNT, IMAGES, NOTHING));
-    REFUSES(MIRROR_VOLUME_SHAPE, mirror_read(VOLUME, COUNT, NOTHING, NOTHING, NOTHING, NOTHING));
-    REFUSES(MIRROR_SECTOR_SIZE, mirror_read(KEY, 24, COUNT, COUNT, IMAGES, NOTHING));
-    REFUSES(MIRROR_KEY_LENGTH, mirror_read(NOTHING, 24, COUNT, COUNT, IMAGES, NOTHING));
+    REFUSES(MIRROR_REFUSED_OTHER_LENGTH, mirror_read(VOLUME, 1, IMAGES, NOTHING));
+    REFUSES(MIRROR_REFUSED_SECTOR_NUMBER, mirror_read(VOLUME, COUNT, IMAGES, NOTHING));
+    REFUSES(MIRROR_REFUSED_VOLUME_SHAPE, mirror_read(VOLUME, COUNT, NOTHING, NOTHING, NOTHING, NOTHING));
+    REFUSES(MIRROR_REFUSED_SECTOR_SIZE, mirror_read(KEY, 24, COUNT, COUNT, IMAGES, NOTHING));
+    REFUSES(MIRROR_REFUSED_KEY_LENGTH, mirror_read(NOTHING, 24, COUNT, COUNT, IMAGES, NOTHING));
     puts("calls: mirror_read");
 }
 
@@ -461,10 +544,10 @@ static void mends(void)
     mends_damaged(locals + SIZE, MIRROR_DOUBTFUL_LOCAL);
     mends_damaged(tags + MIRROR_TAG_BYTES, MIRROR_DOUBTFUL_TAG);
     mends_damaged(remotes + SIZE, MIRROR_DOUBTFUL_REMOTE);
-    REFUSES(MIRROR_SECTOR_NUMBER, mirror_mend(VOLUME, COUNT, IMAGES));
-    REFUSES(MIRROR_VOLUME_SHAPE, mirror_mend(VOLUME, COUNT, NOTHING, NOTHING, NOTHING));
-    REFUSES(MIRROR_SECTOR_SIZE, mirror_mend(KEY, 8, COUNT, COUNT, IMAGES));
-    REFUSES(MIRROR_KEY_LENGTH, mirror_mend(key, 16, 8, COUNT, COUNT, IMAGES));
+    REFUSES(MIRROR_REFUSED_SECTOR_NUMBER, mirror_mend(VOLUME, COUNT, IMAGES));
+    REFUSES(MIRROR_REFUSED_VOLUME_SHAPE, mirror_mend(VOLUME, COUNT, NOTHING, NOTHING, NOTHING));
+    REFUSES(MIRROR_REFUSED_SECTOR_SIZE, mirror_mend(KEY, 8, COUNT, COUNT, IMAGES));
+    REFUSES(MIRROR_REFUSED_KEY_LENGTH, mirror_mend(key, 16, 8, COUNT, COUNT, IMAGES));
     puts("calls: mirror_mend");
 }
 
@@ -476,16 +559,16 @@ static void damage_all(void)
     tags[MIRROR_TAG_BYTES] ^= 1;
     locals[2 * SIZE] ^= 1;
     remotes[3 * SIZE - 1] ^= 1;
-    REFUSES(MIRROR_CLASHING, mirror_read(VOLUME, 0, IMAGES, OUT));
-    REFUSES(MIRROR_CLASHING, mirror_mend(VOLUME, 0, IMAGES));
-    REFUSES(MIRROR_LOST, mirror_read(VOLUME, 2, IMAGES, OUT));
-    REFUSES(MIRROR_LOST, mirror_mend(VOLUME, 2, IMAGES));
+    REFUSES(MIRROR_REFUSED_CLASHING, mirror_read(VOLUME, 0, IMAGES, OUT));
+    REFUSES(MIRROR_REFUSED_CLASHING, mirror_mend(VOLUME, 0, IMAGES));
+    REFUSES(MIRROR_REFUSED_LOST, mirror_read(VOLUME, 2, IMAGES, OUT));
+    REFUSES(MIRROR_REFUSED_LOST, mirror_mend(VOLUME, 2, IMAGES));
 }
 
 static void surveys(void)
 {
-    const uint64_t all_whole[MIRROR_COUNTS] = {3, 0, 0, 0, 1000}, one_whole[MIRROR_COUNTS] = {1, 0, 1, 1, 333};
-    const uint64_t none_whole[MIRROR_COUNTS] = {0, 1, 1, 1, 0};
+    const uint64_t all_whole[MIRROR_COUNTS_LENGTH] = {3, 0, 0, 0, 1000}, one_whole[MIRROR_COUNTS_LENGTH] = {1, 0, 1, 1, 333};
+    const uint64_t none_whole[MIRROR_COUNTS_LENGTH] = {0, 1, 1, 1, 0};
     const uint32_t all_three[COUNT] = {0, 1, 2}, two[2] = {0, 2};
     GIVES(MIRROR_DONE, mirror_survey(VOLUME, IMAGES, LIST, counts));
     DUE(count_bytes, all_whole, sizeof all_whole);
@@ -504,11 +587,11 @@ static void surveys(void)
     check(counts[MIRROR_COUNT_WHOLE] == 1 && counts[MIRROR_COUNT_DOUBTFUL] == 0 && counts[MIRROR_COUNT_CLASHING] == 1 &&
               counts[MIRROR_COUNT_LOST] == 1 && counts[MIRROR_COUNT_HEALTH] == 333,
           __LINE__, "mirror_survey", "the counts stand at other places");
-    REFUSES(MIRROR_LIST_LENGTH, mirror_survey(VOLUME, IMAGES, NOTHING, counts));
-    REFUSES(MIRROR_LIST_LENGTH, mirror_survey(VOLUME, IMAGES, list, COUNT - 1, counts));
-    REFUSES(MIRROR_VOLUME_SHAPE, mirror_survey(VOLUME, NOTHING, NOTHING, NOTHING, NOTHING, counts));
-    REFUSES(MIRROR_SECTOR_SIZE, mirror_survey(KEY, 33, COUNT, IMAGES, NOTHING, counts));
-    REFUSES(MIRROR_KEY_LENGTH, mirror_survey(NOTHING, 33, COUNT, IMAGES, NOTHING, counts));
+    REFUSES(MIRROR_REFUSED_LIST_LENGTH, mirror_survey(VOLUME, IMAGES, NOTHING, counts));
+    REFUSES(MIRROR_REFUSED_LIST_LENGTH, mirror_survey(VOLUME, IMAGES, list, COUNT - 1, counts));
+    REFUSES(MIRROR_REFUSED_VOLUME_SHAPE, mirror_survey(VOLUME, NOTHING, NOTHING, NOTHING, NOTHING, counts));
+    REFUSES(MIRROR_REFUSED_SECTOR_SIZE, mirror_survey(KEY, 33, COUNT, IMAGES, NOTHING, counts));
+    REFUSES(MIRROR_REFUSED_KEY_LENGTH, mirror_survey(NOTHING, 33, COUNT, IMAGES, NOTHING, counts));
     puts("calls: mirror_survey");
 }
 
@@ -539,15 +622,19 @@ int main(void)
     lend_all();
     fill(key, MIRROR_KEY_BYTES, 0);
     fill(plain, SIZE, 0x80);
+    constants();
+    refusals();
+    version();
+    texts();
     seals();
     judges();
     opens();
     rebuilds();
     combines();
     clashes();
-    at_size(MIRROR_LEAST_SECTOR);
+    at_size(MIRROR_SECTOR_BYTES_MIN);
     at_size(496);
-    at_size(MIRROR_MOST_SECTOR);
+    at_size(MIRROR_SECTOR_BYTES_MAX);
     blanks();
     stages();
     stages_of_equal_tags();
@@ -558,6 +645,7 @@ int main(void)
     mends();
     surveys();
     every_answer();
+    volumes();
     free_all();
     printf("calls: %u checks hold, and each of the 15 answers came\n", checks);
     return 0;

@@ -13,12 +13,13 @@
 enum { ROOM = 65536, PAINT = 0xa5, TAG = MIRROR_TAG_BYTES };
 
 static uint8_t key[MIRROR_KEY_BYTES];
-static uint8_t plain[MIRROR_MOST_SECTOR], local[MIRROR_MOST_SECTOR], remote[MIRROR_MOST_SECTOR], tag[TAG], out[MIRROR_MOST_SECTOR];
+static uint8_t plain[MIRROR_SECTOR_BYTES_MAX], local[MIRROR_SECTOR_BYTES_MAX], remote[MIRROR_SECTOR_BYTES_MAX], tag[TAG];
+static uint8_t out[MIRROR_SECTOR_BYTES_MAX];
 static size_t size;
 static uint32_t list[1], side, answer;
-static uint64_t counts[MIRROR_COUNTS];
+static uint64_t counts[MIRROR_COUNTS_LENGTH];
 
-static void seal(void) { answer = mirror_seal(key, sizeof key, 0, plain, size, local, size, remote, size, tag, TAG); }
+static void seal(void) { answer = mirror_seal(key, sizeof key, 0, plain, size, local, size, tag, TAG, remote, size); }
 static void judge(void) { answer = mirror_judge(key, sizeof key, 0, local, size, tag, TAG, remote, size, out, size); }
 static void open(void) { answer = mirror_open(key, sizeof key, 0, side, side ? remote : local, size, tag, TAG, out, size); }
 static void rebuild(void) { answer = mirror_rebuild(key, sizeof key, 0, side, side ? remote : local, size, tag, TAG, out, size); }
@@ -71,7 +72,7 @@ static void measure(Call *call)
 /* Two plaintexts that begin with h and differ in block 2 only have one tag. */
 static void clash(void)
 {
-    static uint8_t other[MIRROR_MOST_SECTOR];
+    static uint8_t other[MIRROR_SECTOR_BYTES_MAX];
     memcpy(plain, key, TAG);
     seal();
     memcpy(other, remote, size);
@@ -85,16 +86,16 @@ static void prepare(uint32_t verdict)
 {
     memset(plain, 7, size);
     seal();
-    if (verdict == MIRROR_DOUBTFUL_LOCAL || verdict == MIRROR_LOST) {
+    if (verdict == MIRROR_DOUBTFUL_LOCAL || verdict == MIRROR_REFUSED_LOST) {
         local[0] ^= 1;
     }
     if (verdict == MIRROR_DOUBTFUL_TAG) {
         tag[0] ^= 1;
     }
-    if (verdict == MIRROR_DOUBTFUL_REMOTE || verdict == MIRROR_LOST) {
+    if (verdict == MIRROR_DOUBTFUL_REMOTE || verdict == MIRROR_REFUSED_LOST) {
         remote[size - 1] ^= 2;
     }
-    if (verdict == MIRROR_CLASHING) {
+    if (verdict == MIRROR_REFUSED_CLASHING) {
         clash();
     }
     judge();
@@ -104,7 +105,7 @@ static void prepare(uint32_t verdict)
     }
 }
 
-/* Every call on a sector of this size for which judging gives this answer. A whole one is refused by none, so each goes to its end there. */
+/* Every call on a sector of this size for which judging gives this answer. No call refuses a whole one, so each goes to its end there. */
 static void measure_all(uint32_t verdict)
 {
     size_t i;
@@ -120,7 +121,7 @@ static void measure_all(uint32_t verdict)
 
 static void measure_sizes(uint32_t verdict, size_t least)
 {
-    for (size = least; size <= MIRROR_MOST_SECTOR; size += 16) {
+    for (size = least; size <= MIRROR_SECTOR_BYTES_MAX; size += 16) {
         side = (uint32_t)(size / 16 % 2);
         measure_all(verdict);
     }
@@ -134,18 +135,18 @@ int main(void)
         return 1;
     }
     memset(key, 0x31, sizeof key);
-    measure_sizes(MIRROR_WHOLE, 16);
-    measure_sizes(MIRROR_DOUBTFUL_LOCAL, 16);
-    measure_sizes(MIRROR_DOUBTFUL_TAG, 16);
-    measure_sizes(MIRROR_DOUBTFUL_REMOTE, 16);
-    measure_sizes(MIRROR_LOST, 16);
-    measure_sizes(MIRROR_CLASHING, 32);
+    measure_sizes(MIRROR_WHOLE, MIRROR_SECTOR_BYTES_MIN);
+    measure_sizes(MIRROR_DOUBTFUL_LOCAL, MIRROR_SECTOR_BYTES_MIN);
+    measure_sizes(MIRROR_DOUBTFUL_TAG, MIRROR_SECTOR_BYTES_MIN);
+    measure_sizes(MIRROR_DOUBTFUL_REMOTE, MIRROR_SECTOR_BYTES_MIN);
+    measure_sizes(MIRROR_REFUSED_LOST, MIRROR_SECTOR_BYTES_MIN);
+    measure_sizes(MIRROR_REFUSED_CLASHING, 32);
     for (i = 0; i < CALLS; i++) {
         printf("stack: mirror_%s uses at most %lu bytes\n", calls[i].name, (unsigned long)calls[i].most);
         most = calls[i].most > most ? calls[i].most : most;
     }
     free(stack);
-    if (most < 2 * MIRROR_MOST_SECTOR || most >= MIRROR_STACK_BYTES) {
+    if (most < 2 * MIRROR_SECTOR_BYTES_MAX || most >= MIRROR_STACK_BYTES) {
         fprintf(stderr, "stack: measured %lu bytes, and the header says less than %d\n", (unsigned long)most, MIRROR_STACK_BYTES);
         return 1;
     }

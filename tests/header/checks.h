@@ -1,0 +1,16 @@
+/* What the files of the test share. Each of them includes mirror.h, so its inline functions stand in several files that are linked. */
+#ifndef CHECKS_H
+#define CHECKS_H
+
+#include "mirror.h"
+
+/* Counts a check; if it does not hold, says what is wrong and ends the program with 1. (calls.c) */
+void check(int holds, int line, const char *text, const char *what);
+
+/* So many bytes of the heap, none more. (calls.c) */
+uint8_t *heap(size_t length);
+
+/* Each function over struct mirror_volume against the call of its name. (volume.c) */
+void volumes(void);
+
+#endif

@@ -1,0 +1,297 @@
+/*
+ * Each function over struct mirror_volume gives what the call of its name gives: the answer and every lent byte. The two are made on equal
+ * buffers, for every state of a sector, with each field of the struct and each further argument right and wrong. What the calls themselves
+ * are to give is in calls.c. Each buffer is on the heap with its exact length.
+ */
+#include "checks.h"
+
+#include <stdio.h>
+#include <stdlib.h>
+#include <string.h>
+
+enum { SIZE = 32, COUNT = 3, NUMBER = 1, FEWER = 16 };
+
+/* ---- the buffers: as they are before, as the call leaves them, and as the function over the struct does */
+
+enum { KEY, LOCAL, TAGS, REMOTE, PLAIN, OUT, LIST, COUNTS, BUFFERS };
+static const size_t LENGTHS[BUFFERS] = {MIRROR_KEY_BYTES,
+                                        COUNT * SIZE,
+                                        COUNT * MIRROR_TAG_BYTES,
+                                        COUNT * SIZE,
+                                        SIZE,
+                                        SIZE,
+                                        COUNT * sizeof(uint32_t),
+                                        MIRROR_COUNTS_LENGTH * sizeof(uint64_t)};
+typedef struct {
+    uint8_t *at[BUFFERS];
+} Buffers;
+
+static void take(Buffers *b)
+{
+    size_t i;
+    for (i = 0; i < BUFFERS; i++) {
+        b->at[i] = heap(LENGTHS[i]);
+    }
+}
+
+static void give_back(Buffers *b)
+{
+    size_t i;
+    for (i = 0; i < BUFFERS; i++) {
+        free(b->at[i]);
+    }
+}
+
+static void copy(const Buffers *from, const Buffers *to)
+{
+    size_t i;
+    for (i = 0; i < BUFFERS; i++) {
+        memcpy(to->at[i], from->at[i], LENGTHS[i]);
+    }
+}
+
+static struct mirror_volume volume_in(const Buffers *b)
+{
+    struct mirror_volume v = {b->at[KEY],  MIRROR_KEY_BYTES, SIZE,          COUNT,       b->at[LOCAL], LENGTHS[LOCAL],
+                              b->at[TAGS], LENGTHS[TAGS],    b->at[REMOTE], LENGTHS[REMOTE]};
+    return v;
+}
+
+static uint32_t *list_in(const Buffers *b) { return (uint32_t *)(void *)b->at[LIST]; }
+static uint64_t *counts_in(const Buffers *b) { return (uint64_t *)(void *)b->at[COUNTS]; }
+
+/* ---- what is called */
+
+enum { BLANK, FIRST, SECOND, THIRD, READ, MEND, SURVEY, CALLS };
+static const char *const NAMES[CALLS] = {"mirror_volume_blank", "mirror_volume_first_stage", "mirror_volume_second_stage",
+                                         "mirror_volume_third_stage", "mirror_volume_read", "mirror_volume_mend",
+                                         "mirror_volume_survey"};
+
+/* The arguments beside the volume. One of them may be wrong. */
+typedef struct {
+    size_t number, plain_len, out_len, list_len;
+} Others;
+
+#define NAMED v.key, v.key_len, v.s, v.n
+#define IMAGES v.local, v.local_len, v.tags, v.tags_len, v.remote, v.remote_len
+#define PLAINTEXT b->at[PLAIN], o->plain_len
+#define OUTPUT b->at[OUT], o->out_len
+#define ENTRIES list_in(b), o->list_len, counts_in(b)
+
+static uint32_t by_call(int which, struct mirror_volume v, const Others *o, const Buffers *b)
+{
+    switch (which) {
+    case BLANK:
+        return mirror_blank(NAMED, o->number, IMAGES);
+    case FIRST:
+        return mirror_first_stage(NAMED, o->number, PLAINTEXT, IMAGES);
+    case SECOND:
+        return mirror_second_stage(NAMED, o->number, PLAINTEXT, IMAGES);
+    case THIRD:
+        return mirror_third_stage(NAMED, o->number, PLAINTEXT, IMAGES);
+    case READ:
+        return mirror_read(NAMED, o->number, IMAGES, OUTPUT);
+    case MEND:
+        return mirror_mend(NAMED, o->number, IMAGES);
+    default:
+        return mirror_survey(NAMED, IMAGES, ENTRIES);
+    }
+}
+
+static uint32_t by_struct(int which, const struct mirror_volume *v, const Others *o, const Buffers *b)
+{
+    switch (which) {
+    case BLANK:
+        return mirror_volume_blank(v, o->number);
+    case FIRST:
+        return mirror_volume_first_stage(v, o->number, PLAINTEXT);
+    case SECOND:
+        return mirror_volume_second_stage(v, o->number, PLAINTEXT);
+    case THIRD:
+        return mirror_volume_third_stage(v, o->number, PLAINTEXT);
+    case READ:
+        return mirror_volume_read(v, o->number, OUTPUT);
+    case MEND:
+        return mirror_volume_mend(v, o->number);
+    default:
+        return mirror_volume_survey(v, ENTRIES);
+    }
+}
+
+/* ---- what is wrong: nothing, a field of the struct, or another argument */
+
+enum { NOTHING, KEY_LEN, S, NO_SECTORS, MORE_SECTORS, LOCAL_LEN, TAGS_LEN, REMOTE_LEN, FIELDS };
+enum { OTHER_NUMBER = 1, PLAIN_LEN, OUT_LEN, LIST_LEN, OTHERS };
+
+static void spoil(struct mirror_volume *v, int field)
+{
+    switch (field) {
+    case KEY_LEN:
+        v->key_len = FEWER;
+        break;
+    case S:
+        v->s = SIZE - 1;
+        break;
+    case NO_SECTORS:
+        v->n = 0;
+        break;
+    case MORE_SECTORS:
+        v->n = COUNT + 1;
+        break;
+    case LOCAL_LEN:
+        v->local_len = SIZE;
+        break;
+    case TAGS_LEN:
+        v->tags_len = MIRROR_TAG_BYTES;
+        break;
+    case REMOTE_LEN:
+        v->remote_len = SIZE;
+        break;
+    default:
+        break;
+    }
+}
+
+static Others others(int wrong)
+{
+    Others o;
+    o.number = wrong == OTHER_NUMBER ? COUNT : NUMBER;
+    o.plain_len = wrong == PLAIN_LEN ? FEWER : SIZE;
+    o.out_len = wrong == OUT_LEN ? FEWER : SIZE;
+    o.list_len = wrong == LIST_LEN ? COUNT - 1 : COUNT;
+    return o;
+}
+
+/* ---- the states that sector NUMBER is in */
+
+enum { WHOLE, HURT_LOCAL, HURT_TAG, HURT_REMOTE, LOST, FIRST_DONE, SECOND_DONE, THIRD_DONE, CLASHING, STATES };
+
+static void made(const Buffers *b, int which)
+{
+    const Others right = others(NOTHING);
+    check(by_call(which, volume_in(b), &right, b) == MIRROR_DONE, __LINE__, NAMES[which], "the call that makes a state is refused");
+}
+
+/* The stages of a write, up to this one. */
+static void written(const Buffers *b, int last)
+{
+    int stage;
+    for (stage = FIRST; stage <= last; stage++) {
+        made(b, stage);
+    }
+}
+
+/* (h, 0) is written, and of (h, 1), which has the same tag, the first stage. */
+static void clash(const Buffers *b)
+{
+    memset(b->at[PLAIN], 0, SIZE);
+    memcpy(b->at[PLAIN], b->at[KEY], MIRROR_TAG_BYTES);
+    written(b, THIRD);
+    b->at[PLAIN][SIZE - 1] = 1;
+    made(b, FIRST);
+}
+
+static void hurt(const Buffers *b, int state)
+{
+    if (state == HURT_LOCAL || state == LOST) {
+        b->at[LOCAL][NUMBER * SIZE] ^= 1;
+    }
+    if (state == HURT_TAG) {
+        b->at[TAGS][NUMBER * MIRROR_TAG_BYTES] ^= 1;
+    }
+    if (state == HURT_REMOTE || state == LOST) {
+        b->at[REMOTE][NUMBER * SIZE] ^= 1;
+    }
+}
+
+static void make(const Buffers *b, int state)
+{
+    const struct mirror_volume v = volume_in(b);
+    size_t i;
+    for (i = 0; i < COUNT; i++) {
+        check(mirror_blank(NAMED, i, IMAGES) == MIRROR_DONE, __LINE__, "mirror_blank", "is refused");
+    }
+    for (i = 0; i < SIZE; i++) {
+        b->at[PLAIN][i] = (uint8_t)(0x60 + i);
+    }
+    if (state >= FIRST_DONE && state <= THIRD_DONE) {
+        written(b, FIRST + state - FIRST_DONE);
+    }
+    if (state == CLASHING) {
+        clash(b);
+    }
+    hurt(b, state);
+}
+
+/* ---- all of it */
+
+static Buffers before, called, structured;
+static unsigned char met[CALLS][256];
+
+static void compare(int which, int field, int wrong)
+{
+    const Others o = others(wrong);
+    struct mirror_volume v = volume_in(&called), w = volume_in(&structured), kept;
+    uint32_t answer;
+    size_t i;
+    copy(&before, &called);
+    copy(&before, &structured);
+    spoil(&v, field);
+    spoil(&w, field);
+    kept = w;
+    answer = by_call(which, v, &o, &called);
+    met[which][answer & 0xff] = 1;
+    check(by_struct(which, &w, &o, &structured) == answer, __LINE__, NAMES[which], "answers another number than the call");
+    for (i = 0; i < BUFFERS; i++) {
+        check(memcmp(called.at[i], structured.at[i], LENGTHS[i]) == 0, __LINE__, NAMES[which], "leaves other bytes than the call");
+    }
+    check(memcmp(&w, &kept, sizeof w) == 0, __LINE__, NAMES[which], "changes the struct");
+}
+
+/* A call in one state of the sector, with each field and each further argument right and wrong. */
+static void compare_all(int which)
+{
+    int field, wrong;
+    for (field = 0; field < FIELDS; field++) {
+        for (wrong = 0; wrong < OTHERS; wrong++) {
+            compare(which, field, wrong);
+        }
+    }
+}
+
+/* Each function has met all that its call can answer. The lists end with zeros: done, or whole. */
+static void each_answer(void)
+{
+    static const uint8_t ANSWERS[CALLS][11] = {{1, 2, 8, 9},
+                                               {1, 2, 8, 9, 3, 10},
+                                               {1, 2, 8, 9, 3, 10},
+                                               {1, 2, 8, 9, 3, 10},
+                                               {1, 2, 8, 9, 3, 6, 7, 0x81, 0x82, 0x83},
+                                               {1, 2, 8, 9, 6, 7, 0x81, 0x82, 0x83},
+                                               {1, 2, 8, 11}};
+    size_t which, i;
+    for (which = 0; which < CALLS; which++) {
+        for (i = 0; i < sizeof ANSWERS[which]; i++) {
+            check(met[which][ANSWERS[which][i]], __LINE__, NAMES[which], "has not met each answer of its call");
+        }
+    }
+}
+
+void volumes(void)
+{
+    int state, which;
+    take(&before);
+    take(&called);
+    take(&structured);
+    for (state = 0; state < STATES; state++) {
+        make(&before, state);
+        for (which = 0; which < CALLS; which++) {
+            compare_all(which);
+        }
+    }
+    each_answer();
+    give_back(&before);
+    give_back(&called);
+    give_back(&structured);
+    puts("calls: struct mirror_volume");
+}
