@@ -109,7 +109,7 @@
 //! - **A tag goes out in one write that the medium does whole**: after a cut it is
 //!   the old one or the new one, never a mixture. A local or remote sector whose
 //!   write had begun may then hold anything.
-//! - **The images are private memory.** A call stores a tag byte by byte: in a
+//! - **The images are private memory.** A call may store a tag byte by byte: in a
 //!   shared mapping of the medium a kill or a power cut between two bytes leaves a
 //!   mixture, and a second stage cut so loses the sector.
 //!
