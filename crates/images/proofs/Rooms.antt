@@ -1,8 +1,9 @@
--- What passing refusals 1, 2 and 8 shows of the images' lengths. Assumes nothing.
+-- What passing refusals 1, 2 and 8 shows of the images' lengths, and the size of scratch slices. Assumes nothing.
 use mathlib.Core.Path.{_≡_, sym, subst}
-use Prim.Native.Nat.{ℕ, _<_}
+use mathlib.Core.List.{List}
+use Prim.Native.Nat.{ℕ, _<_, _≤_}
 use native.Mathlib.Omega.{arith}
-use lib.ListN.{length}
+use lib.ListN.{length, take, replicate, length-take, length-replicate}
 use Rattle.block.proofs.Parts.{part-end}
 use Rattle.mode.specs.Scheme.{local, tag, remote}
 use Rattle.mode.specs.Sealing.{Triple}
@@ -10,7 +11,7 @@ use Rattle.mode.proofs.Sizes.{size-whole, size-le}
 use Rattle.answers.specs.Rules.{Volume}
 use Rattle.answers.proofs.Passing.{Common}
 use Rattle.answers.proofs.Shapes.{shape-facts, count-le}
-use Rattle.images.specs.Lent.{Room, Within}
+use Rattle.images.specs.Lent.{Room, Within, Scratch}
 
 pub has-room : (v : Triple) (vol : Volume) → Common v vol → Room (vol .size) (vol .count) (length (v .local)) (length (v .tag)) (length (v .remote))
 has-room v vol c =
@@ -27,3 +28,10 @@ within-room s n i l g r z h =
 
 pub within-same : {m s i l g r : ℕ} → m ≡ s → Within s i l g r → Within m i l g r
 within-same {i = i} {l} {g} {r} e z = subst (λ (n : ℕ). Within n i l g r) (sym e) z
+
+-- the front of an array of 4,096
+pub prefix-size : (s x : ℕ) → s ≤ 4096 → length (take {A = ℕ} s (replicate 4096 x)) ≡ s
+prefix-size s x h = simp (length-take, length-replicate) (omega arith)
+
+pub scratch-sized : (s : ℕ) → s ≤ 4096 → let z : List ℕ = take s (replicate 4096 0) in Scratch s z z z
+scratch-sized s h = let e = prefix-size s 0 h in record { plain-size = e; sum-size = e; scratch-size = e }

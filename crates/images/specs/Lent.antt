@@ -2,6 +2,7 @@
 use mathlib.Core.Path.{_≡_}
 use mathlib.Core.List.{List}
 use Prim.Native.Nat.{ℕ, _+_, _*_, _<_, _≤_, _%_}
+use lib.ListN.{length}
 use Rattle.mode.specs.Sealing.{Triple, triple}
 use Rattle.history.specs.Volume.{sectorOf}
 
@@ -23,6 +24,12 @@ pub record Within (s i l g r : ℕ) : Type 0 where
   pub local-end : i * s + s ≤ l
   pub tag-end : i * 16 + 16 ≤ g
   pub remote-end : i * s + s ≤ r
+
+-- three slices of a sector's size s: for a plaintext, and two to work in
+pub record Scratch (s : ℕ) (plain sum scratch : List ℕ) : Type 0 where
+  pub plain-size : length plain ≡ s
+  pub sum-size : length sum ≡ s
+  pub scratch-size : length scratch ≡ s
 
 -- sector i of three images
 abbrev pub placesOf : ℕ → ℕ → List ℕ → List ℕ → List ℕ → Triple

@@ -14,7 +14,7 @@ ghost use Rattle.mode.specs.declared.Direction.the-variants.{SealLocal};
 ghost use Rattle.mode.specs.Transforms.{transformedBy};
 ghost use Rattle.answers.specs.Answers.{judgedNumber};
 ghost use Rattle.verdict.specs.Judging.{judgedBy};
-ghost use Rattle.images.specs.Lent.{Within};
+ghost use Rattle.images.specs.Lent.{Within, Scratch};
 
 // Judges sector i of the images with a prepared key.
 pub fn judge_part<'k>(
@@ -31,7 +31,7 @@ pub fn judge_part<'k>(
     sum: &mut [u8],
     scratch: &mut [u8],
 ) -> Judged
-    requires { ⌜ Ready (now t) (now w) (now powers) ctx × Within s i (length (now local)) (length (now tags)) (length (now remote)) × (length (now out) ≡ s) × (length (now sum) ≡ s) × (length (now scratch) ≡ s) ⌝ }
+    requires { ⌜ Ready (now t) (now w) (now powers) ctx × Within s i (length (now local)) (length (now tags)) (length (now remote)) × Scratch s (now out) (now sum) (now scratch) ⌝ }
     ensures { λ r. ⌜ judgedBy (now (w .entry)) (now (powers .entry)) ctx (part s i (now (local .entry))) (part 16 i (now (tags .entry))) (part s i (now (remote .entry))) (now (out .entry)) ≡ (judgedNumber r, now (out .exit)) ⌝ }
 {
     let a = i * s;

@@ -1,5 +1,4 @@
--- What the inner functions need besides a prepared key, what they answer and what they leave. Assumes nothing: these are definitions.
-use mathlib.Core.Path.{_≡_}
+-- What the inner functions answer and leave. Assumes nothing: these are definitions.
 use mathlib.Core.List.{List, [], _∷_}
 use Prim.Native.Nat.{ℕ}
 use lib.ListN.{length}
@@ -11,12 +10,6 @@ use Rattle.mode.specs.Sealing.{Triple}
 use Rattle.answers.specs.Rules.{firstOf, settle}
 use Rattle.history.specs.Answers.{answerNumber}
 use Rattle.history.specs.Volume.{Call, sectorOf, writeAll, late, writes, result}
-
--- three slices of a sector's size s to work in
-pub record Scratch (s : ℕ) (plain sum scratch : List ℕ) : Type 0 where
-  pub plain-size : length plain ≡ s
-  pub sum-size : length sum ≡ s
-  pub scratch-size : length scratch ≡ s
 
 abbrev pub one : Place → List Place
 one p = p ∷ []

@@ -12,8 +12,8 @@ ghost use Rattle.mode.specs.Prepared.{Ready};
 ghost use Rattle.mode.specs.Sealing.{triple};
 ghost use Rattle.answers.specs.Answers.{placeNamed, doneNumber, judgedNumber};
 ghost use Rattle.history.specs.Volume as W;
-ghost use Rattle.images.specs.Lent.{Within};
-ghost use Rattle.stages.specs.Inner.{Scratch, allPlaces, one, sealBy, lateBy};
+ghost use Rattle.images.specs.Lent.{Within, Scratch};
+ghost use Rattle.stages.specs.Inner.{allPlaces, one, sealBy, lateBy};
 
 // The first stage with a prepared key: p's local sector, if the sector is whole.
 pub fn first_in<'k>(

@@ -12,7 +12,7 @@ ghost use Rattle.mode.specs.Prepared.{KeyReady, schemeOf};
 ghost use Rattle.mode.specs.Scheme.{isKey};
 ghost use Rattle.mode.specs.Sealing.{keyFrom, triple};
 ghost use Rattle.history.specs.Volume.{mirror};
-ghost use Rattle.images.specs.Lent.{Room, Within};
+ghost use Rattle.images.specs.Lent.{Room, Within, Scratch};
 ghost use Rattle.survey.specs.Survey.{verdictAt, health, counted, surveyed, reportOf, surveyOutcome};
 ghost use Rattle.survey.specs.Inner.{verdictBy, Tells, CountsOne, ListsOne};
 
@@ -46,7 +46,7 @@ fn judge_at<'k>(
     sum: &mut [u8],
     scratch: &mut [u8],
 ) -> Judged
-    requires { ⌜ KeyReady (now t) (now w) (now powers) (masks .alpha) (masks .beta) × Within s i (length (now local)) (length (now tags)) (length (now remote)) × (length (now plain) ≡ s) × (length (now sum) ≡ s) × (length (now scratch) ≡ s) ⌝ }
+    requires { ⌜ KeyReady (now t) (now w) (now powers) (masks .alpha) (masks .beta) × Within s i (length (now local)) (length (now tags)) (length (now remote)) × Scratch s (now plain) (now sum) (now scratch) ⌝ }
     ensures { λ r. ⌜ Tells r (verdictBy (schemeOf (now (w .entry)) (now (powers .entry))) s (now (local .entry)) (now (tags .entry)) (now (remote .entry)) i) ⌝ }
 {
     let ctx = mode::context_at(masks, i as u64);
@@ -130,7 +130,7 @@ fn survey_in<'k>(
     sum: &mut [u8],
     scratch: &mut [u8],
 ) -> Counts
-    requires { ⌜ KeyReady (now t) (now w) (now powers) (masks .alpha) (masks .beta) × Room s n (length (now local)) (length (now tags)) (length (now remote)) × (n ≤ length (now list)) × (length (now plain) ≡ s) × (length (now sum) ≡ s) × (length (now scratch) ≡ s) ⌝ }
+    requires { ⌜ KeyReady (now t) (now w) (now powers) (masks .alpha) (masks .beta) × Room s n (length (now local)) (length (now tags)) (length (now remote)) × (n ≤ length (now list)) × Scratch s (now plain) (now sum) (now scratch) ⌝ }
     ensures { λ r. ⌜ surveyed (verdictBy (schemeOf (now (w .entry)) (now (powers .entry))) s (now (local .entry)) (now (tags .entry)) (now (remote .entry))) n (now (list .entry)) ≡ (counted r, now (list .exit)) ⌝ }
 {
     let mut counts = Counts {

@@ -3,8 +3,7 @@ use mathlib.Core.Path.{_≡_, sym, ap, _∙_, subst}
 use mathlib.Core.Bool.{true}
 use mathlib.Core.List.{List, _++_}
 use Prim.Native.Nat.{ℕ, _≤_}
-use native.Mathlib.Omega.{arith}
-use lib.ListN.{length, take, replicate, length-take, length-replicate}
+use lib.ListN.{length, take, replicate}
 use Rattle.block.proofs.Lists.{take-zeros}
 use Rattle.mode.specs.Scheme.{isKey}
 use Rattle.mode.specs.Sealing.{Triple, keyFrom, triple}
@@ -20,14 +19,8 @@ use Rattle.history.proofs.Outcomes.{outcome-early, outcome-late, read-early, re
 use Rattle.answers.proofs.Passing.{length-due}
 use Rattle.history.proofs.Refusals.{passed}
 use Rattle.images.specs.Lent.{Within}
-use Rattle.images.proofs.Rooms.{has-room, within-room, within-same}
-use Rattle.stages.specs.Inner.{Scratch, allPlaces, sealInto, lateOutcome}
-
-pub prefix-size : (s x : ℕ) → s ≤ 4096 → length (take {A = ℕ} s (replicate 4096 x)) ≡ s
-prefix-size s x h = simp (length-take, length-replicate) (omega arith)
-
-pub scratch-sized : (s : ℕ) → s ≤ 4096 → let z : List ℕ = take s (replicate 4096 0) in Scratch s z z z
-scratch-sized s h = let e = prefix-size s 0 h in record { plain-size = e; sum-size = e; scratch-size = e }
+use Rattle.images.proofs.Rooms.{has-room, within-room, within-same, prefix-size}
+use Rattle.stages.specs.Inner.{allPlaces, sealInto, lateOutcome}
 
 module _ (k : List ℕ) (s n i : ℕ) (l g r : List ℕ) where
   abbrev a : Args

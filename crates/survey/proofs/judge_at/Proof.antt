@@ -8,7 +8,7 @@ context-at-requires : tie.Need-context-at-requires
 context-at-requires c κs = search needs
 
 judge-part-requires : tie.Need-judge-part-requires
-judge-part-requires c κs = (search (needs, ready-context), search needs, search needs, search needs, search needs)
+judge-part-requires c κs = (search (needs, ready-context), search needs, search needs)
 
 same-length : tie.Need-same-length
 same-length c = search needs

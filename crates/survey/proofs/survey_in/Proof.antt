@@ -1,9 +1,8 @@
-use mathlib.Core.Path.{_≡_}
 use Prim.Native.Nat.{_-_}
 use native.Mathlib.Omega.{arith}
-use lib.ListN.{length}
 use Rattle.mode.specs.Prepared.{schemeOf}
 use Rattle.survey.specs.Inner.{verdictBy}
+use Rattle.images.specs.Lent.{Scratch}
 use Rattle.images.proofs.Rooms.{within-room}
 use Rattle.survey.proofs.Surveying.{Loop, loop-none, loop-next, loop-all}
 use borrow.Author.Needs.{needs}
@@ -12,7 +11,7 @@ use Rattle.survey.proofs.survey_in.Tie as tie
 
 abbrev Inv-loop : tie.InvT-loop
 Inv-loop t w powers masks s n local tags remote list₀ plain₀ sum₀ scratch₀ counts₀ i₀ list plain sum scratch counts i =
-    Loop (verdictBy (schemeOf w powers) s local tags remote) n list₀ i counts list × (length plain ≡ s) × (length sum ≡ s) × (length scratch ≡ s)
+    Loop (verdictBy (schemeOf w powers) s local tags remote) n list₀ i counts list × Scratch s plain sum scratch
 
 abbrev μ-loop : tie.MeasureT-loop
 μ-loop t w powers masks s n local tags remote list₀ plain₀ sum₀ scratch₀ counts₀ i₀ list plain sum scratch counts i =
@@ -42,8 +41,6 @@ loop-less c = search needs
 loop-again : tie.Need-loop-again Inv-loop μ-loop
 loop-again c = (
   loop-next _ _ _ (search needs) (omega arith) (search needs) (c .count-verdict .ensures) (c .before .before .before .list-number .ensures) (search needs),
-  search needs,
-  search needs,
   search needs,
 )
 

@@ -1,5 +1,6 @@
 use native.Mathlib.Omega.{arith}
 use lib.ListN.{length-take}
+use Rattle.images.proofs.Rooms.{scratch-sized}
 use borrow.Author.Needs.{needs}
 use Rattle.survey.proofs.survey_prepared.Statement.{statement}
 use Rattle.survey.proofs.survey_prepared.Tie as tie
@@ -23,7 +24,7 @@ slice-aggregate-survey-in-3 : tie.Need-slice-aggregate-survey-in-3
 slice-aggregate-survey-in-3 c = simp length-take (omega arith)
 
 survey-in-requires : tie.Need-survey-in-requires
-survey-in-requires c κs = (search needs, search needs, search needs, simp length-take (omega arith), simp length-take (omega arith), simp length-take (omega arith))
+survey-in-requires c κs = (search needs, search needs, search needs, search (needs, scratch-sized))
 
 same-length : tie.Need-same-length
 same-length c = search needs

@@ -1,4 +1,5 @@
-use Rattle.volume.proofs.Public.{blank-size, blank-within, blank-done, call-refused, prefix-size}
+use Rattle.images.proofs.Rooms.{prefix-size}
+use Rattle.volume.proofs.Public.{blank-size, blank-within, blank-done, call-refused}
 use borrow.Author.Needs.{needs}
 use Rattle.volume.proofs.blank.Statement.{statement}
 use Rattle.volume.proofs.blank.Tie as tie

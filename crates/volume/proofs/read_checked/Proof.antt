@@ -1,6 +1,6 @@
 use Rattle.mode.proofs.Preparing.{ready-context}
+use Rattle.images.proofs.Rooms.{prefix-size}
 use Rattle.volume.proofs.Keyed.{verdict-keyed}
-use Rattle.volume.proofs.Public.{prefix-size}
 use borrow.Author.Needs.{needs}
 use Rattle.volume.proofs.read_checked.Statement.{statement}
 use Rattle.volume.proofs.read_checked.Tie as tie
@@ -32,7 +32,7 @@ judge-part-requires c κs =
     let k = c .before .before .before .before .before .before .before .before .before .before .prepare .ensures in
     let q = c .before .before .before .before .before .before .before .before .context-at in
     let x = q .ensures in
-    (ready-context (q .result) (k .ready) (x .0) (x .1), p .1, p .2, prefix-size _ _ (p .1 .most), prefix-size _ _ (p .1 .most))
+    (ready-context (q .result) (k .ready) (x .0) (x .1), p .1, record { plain-size = p .2; sum-size = prefix-size _ _ (p .1 .most); scratch-size = prefix-size _ _ (p .1 .most) })
 
 same-length : tie.Need-same-length
 same-length c = search needs
