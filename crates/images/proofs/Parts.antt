@@ -7,9 +7,11 @@ use native.Mathlib.Omega.{arith}
 use lib.ListN.{length, take, drop, replicate, length-take, length-drop}
 use borrow.Rule.Slice.PartMut.{midOf, putMid, post-is}
 use Rattle.block.specs.Bytes.{toBytes, part, patch, same}
+use Rattle.block.specs.declared.Block.{Block}
 use Rattle.mode.specs.declared.Context.{Context}
-use Rattle.mode.specs.Prepared.{Ready}
-use Rattle.verdict.specs.Judging.{JudgeReady, judgedBy}
+use Rattle.mode.specs.Prepared.{KeyReady}
+use Rattle.answers.specs.Passing.{Sizes}
+use Rattle.verdict.specs.Judging.{judgedBy}
 use Rattle.images.specs.Lent.{Within}
 
 lent-part : (w i : ℕ) (image : List ℕ) → midOf (i * w) (i * w + w - i * w) image ≡ part w i image
@@ -25,15 +27,15 @@ lent-patch w i image b = ap (λ (z : List ℕ). take (i * w) image ++ (b ++ z)) 
 part-size : (w i : ℕ) (image : List ℕ) → i * w + w ≤ length image → length (midOf (i * w) (i * w + w - i * w) image) ≡ w
 part-size w i image h = simp (length-take, length-drop) (omega arith)
 
--- what judging asks of the sides' parts, a tag b, an output, and scratch of x and y bytes
-pub lent-parts : (s i : ℕ) (l r : List ℕ) {t w p b out : List ℕ} {ctx : Context} {g x y : ℕ}
-    → Ready t w p ctx → Within s i (length l) g (length r) → length b ≡ 16 → length out ≡ s → x ≡ s → y ≡ s
+-- what judging asks of the sides' parts, a tag of b bytes, an output of o, and scratch of x and y
+pub lent-parts : (s i : ℕ) (l r : List ℕ) {t w p : List ℕ} {alpha beta : Block} {g b o x y : ℕ}
+    → KeyReady t w p alpha beta → Within s i (length l) g (length r) → b ≡ 16 → o ≡ s → x ≡ s → y ≡ s
     → let lent = midOf (i * s) (i * s + s - i * s) l in
-    JudgeReady t w p ctx lent b (midOf (i * s) (i * s + s - i * s) r) out × (x ≡ length lent) × (y ≡ length lent)
+    KeyReady t w p alpha beta × Sizes (length lent) (length (midOf (i * s) (i * s + s - i * s) r)) o b × (x ≡ length lent) × (y ≡ length lent)
 lent-parts s i l r ready z eb eo ex ey =
     let el = part-size s i l (z .local-end) in
     let er = part-size s i r (z .remote-end) in
-    (record { ready = ready; blocks = ap (λ (n : ℕ). n % 16) el ∙ z .blocks; most = omega arith; tag-size = eb; remote-size = er ∙ sym el; out-size = eo ∙ sym el }, ex ∙ sym el, ey ∙ sym el)
+    (ready, record { blocks = ap (λ (n : ℕ). n % 16) el ∙ z .blocks; most = omega arith; first = er ∙ sym el; second = eo ∙ sym el; tag-size = eb }, ex ∙ sym el, ey ∙ sym el)
 
 -- b comes back as b′
 pub lent-written : (w i : ℕ) (image : List ℕ) {b b′ : List ℕ} → b ≡ b′ → putMid (i * w) (i * w + w - i * w) image b ≡ patch w i b′ image

@@ -13,8 +13,7 @@ use Rattle.mode.specs.declared.Context.{Context}
 use Rattle.mode.specs.Prepared.{Ready, PreparedFor, schemeOf}
 use Rattle.mode.specs.Scheme.{dcm, scheme}
 use Rattle.mode.specs.Sealing.{Key, tweak, tagBlock, sides, sealedBy, sealed, triple}
-use Rattle.answers.specs.Passing.{Sizes}
-use Rattle.verdict.specs.Judging.{verdictOutcome, JudgeReady, judgedBy}
+use Rattle.verdict.specs.Judging.{verdictOutcome, judgedBy}
 use Rattle.verdict.specs.Verdict.{judge}
 use Rattle.mode.proofs.Preparing.{keyed, ready-context}
 
@@ -23,9 +22,6 @@ module _ {k : Key} {t w p : List ℕ} {alpha beta : Block} (ctx : Context) (addr
     (x : (ctx .alpha ≡ alpha) × (ctx .beta ≡ beta) × (value (ctx .tweak) ≡ tweak address)) where
   pub ready : Ready t w p ctx
   ready = ready-context ctx (e .ready) (x .0) (x .1)
-
-  pub lent-of : (l g r out : List ℕ) → Sizes (length l) (length r) (length out) (length g) → JudgeReady t w p ctx l g r out
-  lent-of l g r out z = record { ready = ready; blocks = z .blocks; most = z .most; tag-size = z .tag-size; remote-size = z .first; out-size = z .second }
 
   pub judged-is : (l g r out : List ℕ) {a : ℕ × List ℕ} → judgedBy w p ctx l g r out ≡ a → verdictOutcome (judge (scheme k) (tweak address) (triple l g r)) out ≡ a
   judged-is l g r out ea = sym (keyed e (x .2) (λ S T. verdictOutcome (judge S T (triple l g r)) out)) ∙ ea

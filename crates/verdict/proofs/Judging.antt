@@ -18,7 +18,8 @@ use Rattle.mode.specs.Scheme.{Place, local, tag, remote, on, wide, Sector, Sche
 use Rattle.mode.specs.Transforms.{transformed}
 use Rattle.mode.proofs.Laws.{dcm-lawful}
 use Rattle.mode.specs.Prepared.{schemeOf}
-use Rattle.verdict.specs.Judging.{verdictOutcome, JudgeReady, judgedBy, SumFits, SumFails}
+use Rattle.answers.specs.Passing.{Sizes}
+use Rattle.verdict.specs.Judging.{verdictOutcome, judgedBy, SumFits, SumFails}
 use Rattle.verdict.specs.Verdict.{Fits, fits, candidate, judge, Verdict, Side, localSide, remoteSide, openSide}
 use Rattle.verdict.proofs.JudgeExact.{fits-Fits, misfits}
 use Rattle.verdict.proofs.Cases as cases
@@ -33,8 +34,8 @@ pub record Known (l g r : List ℕ) : Type 0 where
   pub tag-size : length g ≡ 16
   pub remote-size : length r ≡ length l
 
-pub known-of : {t w p : List ℕ} {ctx : Context} {l g r out : List ℕ} → JudgeReady t w p ctx l g r out → Bytes l → Bytes g → Bytes r → Known l g r
-known-of e bl bg br = record { bytes-l = bl; bytes-g = bg; bytes-r = br; blocks = e .blocks; tag-size = e .tag-size; remote-size = e .remote-size }
+pub known-of : {l g r : List ℕ} {out : ℕ} → Sizes (length l) (length r) out (length g) → Bytes l → Bytes g → Bytes r → Known l g r
+known-of z bl bg br = record { bytes-l = bl; bytes-g = bg; bytes-r = br; blocks = z .blocks; tag-size = z .tag-size; remote-size = z .first }
 
 module _ (w p : List ℕ) (ctx : Context) (l g r : List ℕ) (known : Known l g r) where
   abbrev T : ℕ

@@ -1,16 +1,15 @@
--- What judging is lent, and what it then answers. Assumes nothing: these are definitions.
+-- The sides as the code names them, what judging answers, and what it has found of local ⊕ remote. Assumes nothing: these are definitions.
 use mathlib.Core.Path.{_≡_}
 use mathlib.Core.Bool.{true, false}
 use mathlib.Core.List.{List, []}
 use mathlib.Core.Option.{Option, none, some}
-use Prim.Native.Nat.{ℕ, _≤_, _%_}
-use lib.ListN.{length}
+use Prim.Native.Nat.{ℕ}
 use Rattle.block.specs.Bytes.{xorBytes}
 use Rattle.block.specs.Value.{value}
 use Rattle.mode.specs.declared.Context.{Context}
 use Rattle.mode.specs.declared.Direction.{Direction}
 use Rattle.mode.specs.declared.Direction.the-variants.{SealLocal, SealRemote, OpenLocal, OpenRemote}
-use Rattle.mode.specs.Prepared.{Ready, schemeOf}
+use Rattle.mode.specs.Prepared.{schemeOf}
 use Rattle.mode.specs.Scheme.{Place, tag, remote}
 use Rattle.mode.specs.Sealing.{triple}
 use Rattle.answers.specs.Answers.{foundNumber}
@@ -33,15 +32,6 @@ openingOf remoteSide = OpenRemote
 abbrev pub sealingOf : Side → Direction
 sealingOf localSide = SealLocal
 sealingOf remoteSide = SealRemote
-
--- a prepared key, and the local sector l, the tag g, the remote sector r and an output of lengths that fit
-pub record JudgeReady (t w p : List ℕ) (ctx : Context) (l g r out : List ℕ) : Type 0 where
-  pub ready : Ready t w p ctx
-  pub blocks : length l % 16 ≡ 0
-  pub most : length l ≤ 4096
-  pub tag-size : length g ≡ 16
-  pub remote-size : length r ≡ length l
-  pub out-size : length out ≡ length l
 
 -- ---- what a verdict answers
 

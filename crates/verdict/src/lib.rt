@@ -7,13 +7,13 @@ use answers::Refusal;
 use mode::Context;
 use mode::Direction;
 ghost use mathlib.Core.Path.{_≡_};
-ghost use Prim.Native.Nat.{_≤_, _%_};
 ghost use lib.ListN.{length};
 ghost use Rattle.block.specs.Bytes.{same};
 ghost use Rattle.block.specs.Value.{value};
 ghost use Rattle.mode.specs.Prepared.{Ready, schemeOf};
 ghost use Rattle.answers.specs.Answers.{judgedNumber};
-ghost use Rattle.verdict.specs.Judging.{sideNamed, openingOf, JudgeReady, judgedBy, SumFits, SumFails};
+ghost use Rattle.answers.specs.Passing.{Sizes};
+ghost use Rattle.verdict.specs.Judging.{sideNamed, openingOf, judgedBy, SumFits, SumFails};
 ghost use Rattle.verdict.specs.Verdict.{sideOf, openSide};
 
 // A side of a sector. It is a number only where a caller gives it.
@@ -54,7 +54,7 @@ pub fn opens(
     tag: &[u8],
     out: &mut [u8],
 ) -> bool
-    requires { ⌜ Ready (now t) (now w) (now powers) ctx × (length (now x) % 16 ≡ 0) × (length (now x) ≤ 4096) × (length (now tag) ≡ 16) × (length (now out) ≡ length (now x)) ⌝ }
+    requires { ⌜ Ready (now t) (now w) (now powers) ctx × Sizes (length (now x)) (length (now out)) (length (now out)) (length (now tag)) ⌝ }
     ensures { λ r. ⌜ (now (out .exit) ≡ openSide (schemeOf (now (w .entry)) (now (powers .entry))) (sideNamed side) (now (tag .entry)) (now (x .entry))) × (r ≡ same (now (tag .entry)) (schemeOf (now (w .entry)) (now (powers .entry)) .sealed (value (ctx .tweak)) (now (out .exit)) .tag)) ⌝ }
 {
     let g = block::load(tag, 0);
@@ -75,7 +75,7 @@ fn judge_fitting_sum(
     sum: &[u8],
     scratch: &mut [u8],
 ) -> Judged
-    requires { ⌜ JudgeReady (now t) (now w) (now powers) ctx (now local) (now tag) (now remote) (now out) × (length (now scratch) ≡ length (now local)) × SumFits (now w) (now powers) ctx (now local) (now tag) (now remote) (now sum) ⌝ }
+    requires { ⌜ Ready (now t) (now w) (now powers) ctx × Sizes (length (now local)) (length (now remote)) (length (now out)) (length (now tag)) × (length (now scratch) ≡ length (now local)) × SumFits (now w) (now powers) ctx (now local) (now tag) (now remote) (now sum) ⌝ }
     ensures { λ r. ⌜ judgedBy (now (w .entry)) (now (powers .entry)) ctx (now (local .entry)) (now (tag .entry)) (now (remote .entry)) (now (out .entry)) ≡ (judgedNumber r, now (out .exit)) ⌝ }
 {
     if opens(t, w, powers, ctx, Side::Local, local, tag, scratch) {
@@ -101,7 +101,7 @@ fn judge_failing_sum(
     left: &mut [u8],
     right: &mut [u8],
 ) -> Judged
-    requires { ⌜ JudgeReady (now t) (now w) (now powers) ctx (now local) (now tag) (now remote) (now out) × (length (now left) ≡ length (now local)) × (length (now right) ≡ length (now local)) × SumFails (now w) (now powers) ctx (now local) (now tag) (now remote) ⌝ }
+    requires { ⌜ Ready (now t) (now w) (now powers) ctx × Sizes (length (now local)) (length (now remote)) (length (now out)) (length (now tag)) × (length (now left) ≡ length (now local)) × (length (now right) ≡ length (now local)) × SumFails (now w) (now powers) ctx (now local) (now tag) (now remote) ⌝ }
     ensures { λ r. ⌜ judgedBy (now (w .entry)) (now (powers .entry)) ctx (now (local .entry)) (now (tag .entry)) (now (remote .entry)) (now (out .entry)) ≡ (judgedNumber r, now (out .exit)) ⌝ }
 {
     let from_local = opens(t, w, powers, ctx, Side::Local, local, tag, left);
@@ -134,7 +134,7 @@ pub fn judge_in<'k>(
     sum: &mut [u8],
     scratch: &mut [u8],
 ) -> Judged
-    requires { ⌜ JudgeReady (now t) (now w) (now powers) ctx (now local) (now tag) (now remote) (now out) × (length (now sum) ≡ length (now local)) × (length (now scratch) ≡ length (now local)) ⌝ }
+    requires { ⌜ Ready (now t) (now w) (now powers) ctx × Sizes (length (now local)) (length (now remote)) (length (now out)) (length (now tag)) × (length (now sum) ≡ length (now local)) × (length (now scratch) ≡ length (now local)) ⌝ }
     ensures { λ r. ⌜ judgedBy (now (w .entry)) (now (powers .entry)) ctx (now (local .entry)) (now (tag .entry)) (now (remote .entry)) (now (out .entry)) ≡ (judgedNumber r, now (out .exit)) ⌝ }
 {
     block::xor_bytes(local, remote, sum);

@@ -1,6 +1,6 @@
 use native.Mathlib.Omega.{arith}
 use lib.ListN.{length-take}
-use Rattle.sector.proofs.Prepared.{lent-of, judged-is}
+use Rattle.sector.proofs.Prepared.{ready, judged-is}
 use borrow.Author.Needs.{needs}
 use Rattle.sector.proofs.judge_checked.Statement.{statement}
 use Rattle.sector.proofs.judge_checked.Tie as tie
@@ -33,8 +33,7 @@ judge-in-requires c κs =
     let z = s .pre .1 in
     let prepared = c .before .before .before .before .before .before .before .before .before .before .prepare .ensures in
     let context = c .before .before .before .before .before .before .before .before .context-at .ensures in
-    let lent = lent-of _ (a .address) prepared context (a .local .now) (a .tag .now) (a .remote .now) (a .out .now) z in
-    (lent, simp length-take (omega arith), simp length-take (omega arith))
+    (ready _ (a .address) prepared context, z, simp length-take (omega arith), simp length-take (omega arith))
 
 same-length : tie.Need-same-length
 same-length c = search needs

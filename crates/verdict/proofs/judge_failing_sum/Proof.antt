@@ -17,7 +17,7 @@ start c = c .before .before .before .before .before .before .before .before .bef
 
 known : (c : Opened) → Known (start c .args .local .now) (start c .args .tag .now) (start c .args .remote .now)
 known c =
-    known-of (start c .pre .0)
+    known-of (start c .pre .1)
     (bytes-all (start c .args .local .now) (λ i h. c .before .before .before .before .before .before .before .before .before .before .before .before .before .shared-slice-known2 .given i .fits))
     (bytes-all (start c .args .tag .now) (λ i h. c .before .before .before .before .before .before .before .before .before .before .before .before .shared-slice-known3 .given i .fits))
     (bytes-all (start c .args .remote .now) (λ i h. c .before .before .before .before .before .before .before .before .before .before .before .shared-slice-known4 .given i .fits))
@@ -40,7 +40,7 @@ returns c =
     let a = start o .args in
     let left = o .before .before .before .before .before .before .opens .ensures in
     let right = o .before .before .opens2 .ensures in
-    clash-both (a .w .now) (a .powers .now) (a .ctx) (a .local .now) (a .tag .now) (a .remote .now) (known o) (a .out .now) (start o .pre .3) left right (c .before .if1 .taken) (c .if2 .taken)
+    clash-both (a .w .now) (a .powers .now) (a .ctx) (a .local .now) (a .tag .now) (a .remote .now) (known o) (a .out .now) (start o .pre .4) left right (c .before .if1 .taken) (c .if2 .taken)
 
 copy-requires : tie.Need-copy-requires
 copy-requires c κs = search needs
@@ -60,7 +60,7 @@ returns-2 c =
     let a = start o .args in
     let left = o .before .before .before .before .before .before .opens .ensures in
     let right = o .before .before .opens2 .ensures in
-    left-only (a .w .now) (a .powers .now) (a .ctx) (a .local .now) (a .tag .now) (a .remote .now) (known o) (a .out .now) (start o .pre .3) left right (c .before .before .before .before .before .before .if1 .taken) (c .before .before .before .before .before .if2 .left) (c .before .before .copy .ensures)
+    left-only (a .w .now) (a .powers .now) (a .ctx) (a .local .now) (a .tag .now) (a .remote .now) (known o) (a .out .now) (start o .pre .4) left right (c .before .before .before .before .before .before .if1 .taken) (c .before .before .before .before .before .if2 .left) (c .before .before .copy .ensures)
 
 copy-requires-2 : tie.Need-copy-requires-2
 copy-requires-2 c κs = search needs
@@ -80,7 +80,7 @@ returns-3 c =
     let a = start o .args in
     let left = o .before .before .before .before .before .before .opens .ensures in
     let right = o .before .before .opens2 .ensures in
-    right-only (a .w .now) (a .powers .now) (a .ctx) (a .local .now) (a .tag .now) (a .remote .now) (known o) (a .out .now) (start o .pre .3) left right (c .before .before .before .before .before .before .if1 .left) (c .before .before .before .before .before .if3 .taken) (c .before .before .copy2 .ensures)
+    right-only (a .w .now) (a .powers .now) (a .ctx) (a .local .now) (a .tag .now) (a .remote .now) (known o) (a .out .now) (start o .pre .4) left right (c .before .before .before .before .before .before .if1 .left) (c .before .before .before .before .before .if3 .taken) (c .before .before .copy2 .ensures)
 
 same-length-9 : tie.Need-same-length-9
 same-length-9 c = search needs
@@ -94,7 +94,7 @@ returns-4 c =
     let a = start o .args in
     let left = o .before .before .before .before .before .before .opens .ensures in
     let right = o .before .before .opens2 .ensures in
-    none-fits (a .w .now) (a .powers .now) (a .ctx) (a .local .now) (a .tag .now) (a .remote .now) (known o) (a .out .now) (start o .pre .3) left right (c .before .if1 .left) (c .if3 .left)
+    none-fits (a .w .now) (a .powers .now) (a .ctx) (a .local .now) (a .tag .now) (a .remote .now) (known o) (a .out .now) (start o .pre .4) left right (c .before .if1 .left) (c .if3 .left)
 
 pub judge-failing-sum-spec : {M : Type 1} → statement M
 judge-failing-sum-spec =

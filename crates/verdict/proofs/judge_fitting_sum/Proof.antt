@@ -19,7 +19,7 @@ start c = c .before .before .before .before .before .before .before .before .bef
 
 known : (c : Opened) → Known (start c .args .local .now) (start c .args .tag .now) (start c .args .remote .now)
 known c =
-    known-of (start c .pre .0)
+    known-of (start c .pre .1)
     (bytes-all (start c .args .local .now) (λ i h. c .before .before .before .before .before .before .before .before .before .shared-slice-known2 .given i .fits))
     (bytes-all (start c .args .tag .now) (λ i h. c .before .before .before .before .before .before .before .before .shared-slice-known3 .given i .fits))
     (bytes-all (start c .args .remote .now) (λ i h. c .before .before .before .before .before .before .before .shared-slice-known4 .given i .fits))
@@ -34,7 +34,7 @@ returns : tie.Need-returns
 returns c =
     let o = c .before in
     let a = start o .args in
-    clash-left (a .w .now) (a .powers .now) (a .ctx) (a .local .now) (a .tag .now) (a .remote .now) (known o) (a .out .now) (a .sum .now) (start o .pre .2) (o .before .before .opens .ensures) (c .if1 .taken)
+    clash-left (a .w .now) (a .powers .now) (a .ctx) (a .local .now) (a .tag .now) (a .remote .now) (known o) (a .out .now) (a .sum .now) (start o .pre .3) (o .before .before .opens .ensures) (c .if1 .taken)
 
 opens-requires-2 : tie.Need-opens-requires-2
 opens-requires-2 c κs = search needs
@@ -46,13 +46,13 @@ returns-2 : tie.Need-returns-2
 returns-2 c =
     let o = c .before .before .before .before .before .before in
     let a = start o .args in
-    clash-right (a .w .now) (a .powers .now) (a .ctx) (a .local .now) (a .tag .now) (a .remote .now) (known o) (a .out .now) (a .sum .now) (start o .pre .2) (c .before .before .before .opens2 .ensures) (c .if2 .taken)
+    clash-right (a .w .now) (a .powers .now) (a .ctx) (a .local .now) (a .tag .now) (a .remote .now) (known o) (a .out .now) (a .sum .now) (start o .pre .3) (c .before .before .before .opens2 .ensures) (c .if2 .taken)
 
 copy-requires : tie.Need-copy-requires
 copy-requires c κs =
     let a = c .before .before .before .before .before .before .before .before .before .before .before .before .before .before .before .before .before .before .args in
     let p = c .before .before .before .before .before .before .before .before .before .before .before .before .before .before .before .before .before .before .pre in
-    p .0 .out-size ∙ sym (ap length (p .2 .is-sum) ∙ length-xor (a .local .now) (a .remote .now) (sym (p .0 .remote-size)))
+    p .1 .second ∙ sym (ap length (p .3 .is-sum) ∙ length-xor (a .local .now) (a .remote .now) (sym (p .1 .first)))
 
 same-length-3 : tie.Need-same-length-3
 same-length-3 c = search needs
@@ -64,7 +64,7 @@ returns-3 : tie.Need-returns-3
 returns-3 c =
     let o = c .before .before .before .before .before .before .before .before .before .before in
     let a = start o .args in
-    sum-only (a .w .now) (a .powers .now) (a .ctx) (a .local .now) (a .tag .now) (a .remote .now) (known o) (a .out .now) (a .sum .now) (start o .pre .2) (o .before .before .opens .ensures) (c .before .before .before .before .before .before .before .opens2 .ensures) (c .before .before .before .before .before .before .before .before .before .if1 .left) (c .before .before .before .before .if2 .left) (c .before .before .copy .ensures)
+    sum-only (a .w .now) (a .powers .now) (a .ctx) (a .local .now) (a .tag .now) (a .remote .now) (known o) (a .out .now) (a .sum .now) (start o .pre .3) (o .before .before .opens .ensures) (c .before .before .before .before .before .before .before .opens2 .ensures) (c .before .before .before .before .before .before .before .before .before .if1 .left) (c .before .before .before .before .if2 .left) (c .before .before .copy .ensures)
 
 pub judge-fitting-sum-spec : {M : Type 1} → statement M
 judge-fitting-sum-spec =

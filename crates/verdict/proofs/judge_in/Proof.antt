@@ -25,7 +25,7 @@ start c = c .before .before .before .before .before .before .before .before .bef
 
 known : (c : Compared) → Known (start c .args .local .now) (start c .args .tag .now) (start c .args .remote .now)
 known c =
-    known-of (start c .pre .0)
+    known-of (start c .pre .1)
     (bytes-all (start c .args .local .now) (λ i h. c .before .before .before .before .before .before .before .before .before .before .before .before .before .before .before .before .before .before .shared-slice-known2 .given i .fits))
     (bytes-all (start c .args .tag .now) (λ i h. c .before .before .before .before .before .before .before .before .before .before .before .before .before .before .before .before .before .shared-slice-known3 .given i .fits))
     (bytes-all (start c .args .remote .now) (λ i h. c .before .before .before .before .before .before .before .before .before .before .before .before .before .before .before .before .shared-slice-known4 .given i .fits))
@@ -79,7 +79,7 @@ judge-fitting-sum-requires c κs =
     let side = o .before .before .before .before .transform .ensures in
     let compared = o .same .ensures in
     let pre = start o .pre in
-    (pre .0, omega arith, sum-fits (a .w .now) (a .powers .now) (a .ctx) (a .local .now) (a .tag .now) (a .remote .now) (known o) xored tagged side compared (c .before .before .before .before .before .load .ensures) (c .before .before .before .before .equal .ensures) (c .before .before .before .before .before .before .if1 .taken) (c .before .before .before .if2 .left))
+    (pre .0, pre .1, omega arith, sum-fits (a .w .now) (a .powers .now) (a .ctx) (a .local .now) (a .tag .now) (a .remote .now) (known o) xored tagged side compared (c .before .before .before .before .before .load .ensures) (c .before .before .before .before .equal .ensures) (c .before .before .before .before .before .before .if1 .taken) (c .before .before .before .if2 .left))
 
 same-length-4 : tie.Need-same-length-4
 same-length-4 c = search needs
@@ -102,7 +102,7 @@ judge-failing-sum-requires c κs =
     let side = o .before .before .before .before .transform .ensures in
     let compared = o .same .ensures in
     let pre = start o .pre in
-    (pre .0, omega arith, omega arith, sum-fails (a .w .now) (a .powers .now) (a .ctx) (a .local .now) (a .tag .now) (a .remote .now) (known o) xored tagged side compared (c .before .before .before .if1 .left))
+    (pre .0, pre .1, omega arith, omega arith, sum-fails (a .w .now) (a .powers .now) (a .ctx) (a .local .now) (a .tag .now) (a .remote .now) (known o) xored tagged side compared (c .before .before .before .if1 .left))
 
 same-length-7 : tie.Need-same-length-7
 same-length-7 c = search needs

@@ -28,7 +28,7 @@ returns : tie.Need-returns
 returns c =
     let s = c .before .before .before .before .before .before .before .before .before .before .before .before .before in
     let a = s .args in
-    let size = s .pre .3 in
+    let size = s .pre .1 .tag-size in
     let bytes = bytes-all (a .tag .now) (λ i h. c .before .before .before .before .before .before .before .before .before .before .shared-slice-known3 .given i .fits) in
     let k = c .before .before .before .before .before .before .before .before .load .ensures in
     (side-opened (a .w .now) (a .powers .now) (value (a .ctx .tweak)) (a .tag .now) size bytes (sideNamed (a .side)) (a .x .now) _ k (c .before .before .before .before .before .before .before .opening .ensures) (c .before .before .before .before .before .transform .ensures), tag-compared (a .w .now) (a .powers .now) (value (a .ctx .tweak)) (a .tag .now) size bytes _ _ _ (c .before .tag-block .ensures) k (c .equal .ensures))
