@@ -5,16 +5,15 @@ use mathlib.Core.List.{List}
 use mathlib.Core.Option.{Option, none, some}
 use Prim.Native.Nat.{ℕ}
 use lib.ListN.{length, take, drop}
-use Rattle.block.specs.Bytes.{fromBytes, blocksOf, same}
+use Rattle.block.specs.Bytes.{fromBytes, same}
 use Rattle.block.specs.declared.Block.{Block}
 use Rattle.block.specs.Value.{value}
-use Rattle.fips197.specs.Aes.{cipherNumber}
 use Rattle.mode.specs.declared.Context.{Context}
 use Rattle.mode.specs.declared.Direction.{Direction}
 use Rattle.mode.specs.Prepared.{PreparedFor, Ready, schemeOf}
 use Rattle.mode.specs.Scheme.{isKey, scheme}
-use Rattle.mode.specs.Sealing.{Key, tweak, blockwise, pad, keyFrom}
-use Rattle.mode.specs.Transforms.{transformed}
+use Rattle.mode.specs.Sealing.{Key, tweak, keyFrom}
+use Rattle.mode.specs.Transforms.{transformedBy}
 use Rattle.answers.specs.declared.Done.{Done}
 use Rattle.answers.specs.declared.Done.the-variants as D
 use Rattle.answers.specs.declared.Refusal.{Refusal}
@@ -53,7 +52,7 @@ module _ (w p : List ℕ) (T : ℕ) (d : Side) (x g : List ℕ) (known : Side-kn
       ap (λ (h : Wanted). openedAs h (schemeOf w p) T d x g out) eh ∙ outcome-some (λ P. P) out (found w p T d x g known o b tried y) ea
 
   pub gives-opposite : {h : Wanted} → h ≡ Opposite → b ≡ true → {k : ℕ} {how : Direction} {a : List ℕ} → k ≡ fromBytes (take 16 (drop 0 g)) → how ≡ sealingOf (otherSide d)
-      → a ≡ blockwise (λ j v. transformed how (pad (cipherNumber w) k j) v) 1 (blocksOf o) → openedAs h (schemeOf w p) T d x g out ≡ (0, a)
+      → a ≡ transformedBy how w k o → openedAs h (schemeOf w p) T d x g out ≡ (0, a)
   gives-opposite eh y {k} ek ehow ea =
       ap (λ (h : Wanted). openedAs h (schemeOf w p) T d x g out) eh
       ∙ outcome-some (wantedOf Opposite (schemeOf w p) T d) out (found w p T d x g known o b tried y) (rebuilt w p T d x g known o b tried y k ek ehow ea)

@@ -5,7 +5,7 @@ use mathlib.Core.List.{List}
 use Prim.Native.Nat.{ℕ, _%_}
 use lib.Dec.{eqb}
 use lib.ListN.{length, take, drop}
-use Rattle.block.specs.Bytes.{Bytes, Plain, fromBytes, blocksOf, xorBytes, same}
+use Rattle.block.specs.Bytes.{Bytes, Plain, fromBytes, xorBytes, same}
 use Rattle.block.specs.Value.{value}
 use Rattle.block.proofs.Lists.{same-eq, ne-same}
 use Rattle.fips197.specs.Aes.{cipherNumber}
@@ -13,9 +13,9 @@ use Rattle.fips197.proofs.Bounds.{cipher-lt}
 use Rattle.hash.specs.Powers.{keyOf}
 use Rattle.mode.specs.declared.Context.{Context}
 use Rattle.mode.specs.declared.Direction.the-variants.{SealRemote}
-use Rattle.mode.specs.Sealing.{Triple, blockwise, tagBlock, pad, remoteBlock, sides, sealedBy, triple}
+use Rattle.mode.specs.Sealing.{Triple, tagBlock, remoteBlock, sides, sealedBy, triple}
 use Rattle.mode.specs.Scheme.{Place, local, tag, remote, on, wide, Sector, Scheme, Lawful, dcm}
-use Rattle.mode.specs.Transforms.{transformed}
+use Rattle.mode.specs.Transforms.{transformedBy}
 use Rattle.mode.proofs.Laws.{dcm-lawful}
 use Rattle.mode.specs.Prepared.{schemeOf}
 use Rattle.answers.specs.Passing.{Sizes}
@@ -104,10 +104,10 @@ module _ (w p : List ℕ) (ctx : Context) (l g r : List ℕ) (known : Known l g 
 
   -- what the code works out of the sum local ⊕ remote: its tag k, its remote side o, and whether that is the remote sector
   module _ {sum o : List ℕ} {k : ℕ} {x : Bool} (es : sum ≡ xorBytes l r) (ek : k ≡ tagBlock (cipherNumber w) (keyOf p) T sum)
-      (eo : o ≡ blockwise (λ j v. transformed SealRemote (pad (cipherNumber w) k j) v) 1 (blocksOf sum)) (ex : x ≡ same r o) where
+      (eo : o ≡ transformedBy SealRemote w k sum) (ex : x ≡ same r o) where
     remote-test : x ≡ fits S T t remote sum
     unfolding fits dcm sealedBy sides remoteBlock
-    remote-test = ex ∙ ap (same r) (eo ∙ ap (λ (n : ℕ). blockwise (remoteBlock (cipherNumber w) n) 1 (blocksOf sum)) ek)
+    remote-test = ex ∙ ap (same r) (eo ∙ ap (λ (n : ℕ). transformedBy SealRemote w n sum) ek)
 
     pub sum-fails : x ≡ false → SumFails w p ctx l g r
     unfolding SumFails

@@ -5,16 +5,16 @@ use mathlib.Core.List.{List}
 use mathlib.Core.Option.{none, some}
 use Prim.Native.Nat.{ℕ, _%_}
 use lib.ListN.{length, take, drop}
-use Rattle.block.specs.Bytes.{Bytes, Plain, fromBytes, blocksOf, same}
+use Rattle.block.specs.Bytes.{Bytes, Plain, fromBytes, same}
 use Rattle.block.proofs.Lists.{same-eq, ne-same}
 use Rattle.block.proofs.Numbers.{from-to}
 use Rattle.fips197.specs.Aes.{cipherNumber}
 use Rattle.fips197.proofs.Bounds.{cipher-lt}
 use Rattle.hash.specs.Powers.{keyOf}
 use Rattle.mode.specs.declared.Direction.{Direction}
-use Rattle.mode.specs.Sealing.{blockwise, tagBlock, pad, localBlock, remoteBlock, sides, sealedBy}
+use Rattle.mode.specs.Sealing.{tagBlock, localBlock, remoteBlock, sides, sealedBy}
 use Rattle.mode.specs.Scheme.{on, Scheme, Lawful, dcm}
-use Rattle.mode.specs.Transforms.{transformed}
+use Rattle.mode.specs.Transforms.{transformedBy}
 use Rattle.mode.proofs.Laws.{tag-lt, dcm-lawful}
 use Rattle.mode.specs.Prepared.{schemeOf}
 use Rattle.verdict.specs.Judging.{sealingOf}
@@ -70,17 +70,17 @@ module _ (w p : List ℕ) (T : ℕ) (d : Side) (x g : List ℕ) (known : Side-kn
 
     -- the other side as the plaintext found seals, from the tag that was lent
     pub rebuilt : b ≡ true → (k : ℕ) {how : Direction} {y : List ℕ} → k ≡ fromBytes (take 16 (drop 0 g)) → how ≡ sealingOf (otherSide d)
-        → y ≡ blockwise (λ j v. transformed how (pad (cipherNumber w) k j) v) 1 (blocksOf o) → y ≡ on (S .sealed T o) (placeOf (otherSide d))
+        → y ≡ transformedBy how w k o → y ≡ on (S .sealed T o) (placeOf (otherSide d))
     unfolding dcm sealedBy sides localBlock remoteBlock
     rebuilt t k {how} {y} ek eh ey =
-        ey ∙ ap₂ (λ (h : Direction) (n : ℕ). blockwise (λ j v. transformed h (pad (cipherNumber w) n j) v) 1 (blocksOf o)) eh tag-is ∙ side d
+        ey ∙ ap₂ (λ (h : Direction) (n : ℕ). transformedBy h w n o) eh tag-is ∙ side d
       where
         tag-is : k ≡ tagBlock (cipherNumber w) (keyOf p) T o
         tag-is =
             ek ∙ tag-loaded g (known .tag-size) ∙ ap fromBytes (same-eq g (S .sealed T o .tag) (sym (e .1) ∙ t))
             ∙ from-to 16 (tagBlock (cipherNumber w) (keyOf p) T o) (tag-lt (cipherNumber w) (cipher-lt w) (keyOf p) T o)
 
-        side : (d : Side) → blockwise (λ j v. transformed (sealingOf (otherSide d)) (pad (cipherNumber w) (tagBlock (cipherNumber w) (keyOf p) T o) j) v) 1 (blocksOf o)
+        side : (d : Side) → transformedBy (sealingOf (otherSide d)) w (tagBlock (cipherNumber w) (keyOf p) T o) o
             ≡ on (S .sealed T o) (placeOf (otherSide d))
         side localSide = refl
         side remoteSide = refl

@@ -1,5 +1,5 @@
 -- What the code works out when it opens a side, in the terms of the specification. Assumes nothing.
-use mathlib.Core.Path.{_≡_, refl, sym, ap, _∙_}
+use mathlib.Core.Path.{_≡_, refl, sym, ap, ap₂, _∙_}
 use mathlib.Core.Bool.{Bool, true, false}
 use mathlib.Core.List.{List}
 use Prim.Native.Nat.{ℕ, zero, suc, _^_, _<_}
@@ -8,16 +8,16 @@ use lib.Dec.{eqb}
 use lib.ListN.{length, take, drop}
 use lib.Seq.{take-all}
 use borrow.Author.Tests.{eqb-true, eqb-false}
-use Rattle.block.specs.Bytes.{Bytes, fromBytes, toBytes, blocksOf, same}
+use Rattle.block.specs.Bytes.{Bytes, fromBytes, toBytes, same}
 use Rattle.block.proofs.Lists.{eq-same, same-ne}
 use Rattle.block.proofs.Numbers.{from-to, to-from}
 use Rattle.fips197.specs.Aes.{cipherNumber}
 use Rattle.fips197.proofs.Bounds.{cipher-lt}
 use Rattle.hash.specs.Powers.{keyOf}
 use Rattle.mode.specs.declared.Direction.{Direction}
-use Rattle.mode.specs.Sealing.{blockwise, tagBlock, pad, openLocalBlock, openRemoteBlock, sides, sealedBy}
+use Rattle.mode.specs.Sealing.{tagBlock, openLocalBlock, openRemoteBlock, sides, sealedBy}
 use Rattle.mode.specs.Scheme.{dcm}
-use Rattle.mode.specs.Transforms.{transformed}
+use Rattle.mode.specs.Transforms.{transformedBy}
 use Rattle.mode.proofs.Laws.{tag-lt}
 use Rattle.mode.specs.Prepared.{schemeOf}
 use Rattle.verdict.specs.Judging.{openingOf}
@@ -47,14 +47,10 @@ module _ (w p : List ℕ) (T : ℕ) (g : List ℕ) (size : length g ≡ 16) (byt
       ∙ block-same g size bytes (tagBlock (cipherNumber w) (keyOf p) T P) (tag-lt (cipherNumber w) (cipher-lt w) (keyOf p) T P)
 
   pub side-opened : (d : Side) (x : List ℕ) (k : ℕ) {how : Direction} {o : List ℕ} → k ≡ fromBytes (take 16 (drop 0 g)) → how ≡ openingOf d
-      → o ≡ blockwise (λ j v. transformed how (pad (cipherNumber w) k j) v) 1 (blocksOf x) → o ≡ openSide (schemeOf w p) d g x
+      → o ≡ transformedBy how w k x → o ≡ openSide (schemeOf w p) d g x
   unfolding dcm openLocalBlock openRemoteBlock
-  side-opened localSide x k ek eh e =
-      e ∙ ap (λ (h : Direction). blockwise (λ j v. transformed h (pad (cipherNumber w) k j) v) 1 (blocksOf x)) eh
-      ∙ ap (λ (n : ℕ). blockwise (openLocalBlock (cipherNumber w) n) 1 (blocksOf x)) (ek ∙ tag-loaded g size)
-  side-opened remoteSide x k ek eh e =
-      e ∙ ap (λ (h : Direction). blockwise (λ j v. transformed h (pad (cipherNumber w) k j) v) 1 (blocksOf x)) eh
-      ∙ ap (λ (n : ℕ). blockwise (openRemoteBlock (cipherNumber w) n) 1 (blocksOf x)) (ek ∙ tag-loaded g size)
+  side-opened localSide x k ek eh e = e ∙ ap₂ (λ (h : Direction) (n : ℕ). transformedBy h w n x) eh (ek ∙ tag-loaded g size)
+  side-opened remoteSide x k ek eh e = e ∙ ap₂ (λ (h : Direction) (n : ℕ). transformedBy h w n x) eh (ek ∙ tag-loaded g size)
 
 -- a side number other than 0
 pub side-other : (d : ℕ) → (d ≡ 0 → ⊥) → sideOf d ≡ remoteSide
