@@ -8,8 +8,8 @@ use native.Mathlib.Omega.{arith}
 use lib.Dec.{eqb, leb}
 use lib.ListN.{length}
 use borrow.Author.Tests.{eqb-true, leb-true}
-use Rattle.block.proofs.Lists.{and-left, and-right}
 use Rattle.mode.specs.Scheme.{isSize}
+use Rattle.mode.proofs.Sizes.{size-le}
 use Rattle.answers.specs.Rules.{rule, firstOf}
 use Rattle.answers.proofs.Rules.{none-left, none-right}
 use Rattle.frame.specs.Frame.{kind, beside, together, half, kindRules, halvesRules}
@@ -27,14 +27,10 @@ beside-fits f h e = go (eqb (kind f) 1) (eqb (kind f) 2) (leb 57 (length f)) ref
     go false d t l k = h
 
 sectors-even : (n : ℕ) → firstOf (halvesRules n) ≡ none → (n % 2 ≡ 0) × (n / 2 ≤ 4096)
-unfolding isSize
 sectors-even n e = go (eqb (n % 2) 0) (isSize (n / 2)) refl refl e
   where
     go : (b d : Bool) → eqb (n % 2) 0 ≡ b → isSize (n / 2) ≡ d → firstOf (rule 3 (not b) ∷ rule 2 (not d) ∷ []) ≡ none → (n % 2 ≡ 0) × (n / 2 ≤ 4096)
-    go true true p q k = (
-      eqb-true (n % 2) 0 p,
-      leb-true (n / 2) 4096 (and-left (leb (n / 2) 4096) (eqb (n / 2 % 16) 0) (and-right (leb 16 (n / 2)) (leb (n / 2) 4096 && eqb (n / 2 % 16) 0) q)),
-    )
+    go true true p q k = (eqb-true (n % 2) 0 p, size-le (n / 2) q)
     go true false p q k = absurd (let z : _≡_ {A = ℕ} 0 1 = cc in omega arith)
     go false d p q k = absurd (let z : _≡_ {A = ℕ} 0 1 = cc in omega arith)
 
