@@ -17,7 +17,7 @@ use Rattle.block.proofs.Numbers.{number-append, from-to, bytes-toBytes, length-
 use Rattle.hash.specs.Brw.{brw}
 use Rattle.fips197.specs.Aes.{expand, cipherNumber}
 use Rattle.fips197.proofs.Bounds.{cipher-lt}
-use Rattle.mode.specs.Sealing.{cipherKey, roundKeys, hashKey, tweak, timesX, blockwise, tagBlock, pad, localBlock, remoteBlock, openLocalBlock, openRemoteBlock, sides, sealedBy}
+use Rattle.mode.specs.Sealing.{keyFrom, cipherKey, roundKeys, hashKey, tweak, timesX, blockwise, tagBlock, pad, localBlock, remoteBlock, openLocalBlock, openRemoteBlock, sides, sealedBy}
 use Rattle.mode.specs.Scheme.{Place, local, tag, remote, on, wide, Lawful, Sound, dcm, scheme}
 use Rattle.mode.proofs.Sizes.{size-whole}
 use Rattle.mode.proofs.Blockwise.{blocksOf-below, plain-blockwise, blocks-back, undone, summed}
@@ -177,13 +177,13 @@ module _ (k : List ℕ) (size : length k ≡ 32) where
   rest-is : rest ≡ drop 16 k
   rest-is = take-all (length k - 16) (drop 16 k) (simp length-drop (omega arith))
 
-  pub round-keys-are : {w : List ℕ} (n : ℕ) → n ≡ 10 → w ≡ expand (length rest / 4) n rest → w ≡ roundKeys (record { bytes = k })
+  pub round-keys-are : {w : List ℕ} (n : ℕ) → n ≡ 10 → w ≡ expand (length rest / 4) n rest → w ≡ roundKeys (keyFrom k)
   unfolding roundKeys cipherKey
   round-keys-are n en e =
       let ten : n ≡ length (drop 16 k) / 4 + 6 = simp length-drop (omega arith) in
       e ∙ ap (λ (l : List ℕ). expand (length l / 4) n l) rest-is ∙ ap (λ (r : ℕ). expand (length (drop 16 k) / 4) r (drop 16 k)) ten
 
-  pub hash-key-is : {h x : ℕ} → h ≡ x → x ≡ fromBytes (take 16 (drop 0 k)) → h ≡ hashKey (record { bytes = k })
+  pub hash-key-is : {h x : ℕ} → h ≡ x → x ≡ fromBytes (take 16 (drop 0 k)) → h ≡ hashKey (keyFrom k)
   unfolding hashKey
   hash-key-is e f = e ∙ f
 
