@@ -20,24 +20,24 @@ pub record PadsReady (t w : List ℕ) (b : Block) : Type 0 where
   pub rounds : 8 ≤ length w
   pub beta : value b ≡ cipherNumber w 1
 
--- for a tag besides: the powers p of the hash key, and the block a, which is E(0)
-pub record KeyReady (t w p : List ℕ) (a b : Block) : Type 0 where
+-- for a tag besides: the powers of the hash key, and the block a, which is E(0)
+pub record KeyReady (t w powers : List ℕ) (a b : Block) : Type 0 where
   pub pads : PadsReady t w b
-  pub powers : Powers p
+  pub are-powers : Powers powers
   pub alpha : value a ≡ cipherNumber w 0
 
 -- E(0) and E(1) as the context of an address has them
 abbrev pub Ready : List ℕ → List ℕ → List ℕ → Context → Type 0
-Ready t w p ctx = KeyReady t w p (ctx .alpha) (ctx .beta)
+Ready t w powers ctx = KeyReady t w powers (ctx .alpha) (ctx .beta)
 
 -- ---- whose they are
 
 -- of the key k
-pub record PreparedFor (k : Key) (t w p : List ℕ) (a b : Block) : Type 0 where
+pub record PreparedFor (k : Key) (t w powers : List ℕ) (a b : Block) : Type 0 where
   pub round-keys : w ≡ roundKeys k
-  pub hash-key : keyOf p ≡ hashKey k
-  pub ready : KeyReady t w p a b
+  pub hash-key : keyOf powers ≡ hashKey k
+  pub ready : KeyReady t w powers a b
 
--- the mode under the round keys w and the powers p of the hash key
+-- the mode under the round keys w and the powers of the hash key
 abbrev pub schemeOf : List ℕ → List ℕ → Scheme
-schemeOf w p = dcm (cipherNumber w) (keyOf p)
+schemeOf w powers = dcm (cipherNumber w) (keyOf powers)

@@ -28,13 +28,13 @@ unfoldable pub lateOutcome : Scheme → ℕ → ℕ → ℕ → Triple → Call 
 unfolding sealInto
 lateOutcome S T s i v c =
     let t = sectorOf s i v in
-    let w = writes s S T t c in
-    settle (firstOf (late S T t c)) (answerNumber (result S T t c), sealInto S T s i (w .plain) (w .places) v) v
+    let written = writes s S T t c in
+    settle (firstOf (late S T t c)) (answerNumber (result S T t c), sealInto S T s i (written .plain) (written .places) v) v
 
--- ---- the same with the round keys w, the powers p of the hash key and a context
+-- ---- the same with the round keys w, the powers of the hash key and a context
 
 abbrev pub sealBy : List ℕ → List ℕ → Context → ℕ → List ℕ → List Place → Triple → Triple
-sealBy w p ctx i P places v = sealInto (schemeOf w p) (value (ctx .tweak)) (length P) i P places v
+sealBy w powers ctx i P places v = sealInto (schemeOf w powers) (value (ctx .tweak)) (length P) i P places v
 
 abbrev pub lateBy : List ℕ → List ℕ → Context → ℕ → ℕ → Triple → Call → ℕ × Triple
-lateBy w p ctx s i v c = lateOutcome (schemeOf w p) (value (ctx .tweak)) s i v c
+lateBy w powers ctx s i v c = lateOutcome (schemeOf w powers) (value (ctx .tweak)) s i v c

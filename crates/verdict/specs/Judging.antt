@@ -58,22 +58,22 @@ verdictPlain clashing = []
 
 -- the number of a verdict, and the output afterwards, which was `out`
 abbrev pub verdictOutcome : Verdict → List ℕ → ℕ × List ℕ
-verdictOutcome w out = settle (verdictRefusal w) (foundNumber (verdictDoubt w), verdictPlain w) out
+verdictOutcome v out = settle (verdictRefusal v) (foundNumber (verdictDoubt v), verdictPlain v) out
 
 -- the number alone
 abbrev pub verdictNumber : Verdict → ℕ
-verdictNumber w = verdictOutcome w [] .0
+verdictNumber v = verdictOutcome v [] .0
 
 -- what judging answers and leaves
 abbrev pub judgedBy : List ℕ → List ℕ → Context → List ℕ → List ℕ → List ℕ → List ℕ → ℕ × List ℕ
-judgedBy w p ctx l g r out = verdictOutcome (judge (schemeOf w p) (value (ctx .tweak)) (triple l g r)) out
+judgedBy w powers ctx l g r out = verdictOutcome (judge (schemeOf w powers) (value (ctx .tweak)) (triple l g r)) out
 
 -- local ⊕ remote fits both sides, and not the tag
-pub record SumFits (w p : List ℕ) (ctx : Context) (l g r sum : List ℕ) : Type 0 where
+pub record SumFits (w powers : List ℕ) (ctx : Context) (l g r sum : List ℕ) : Type 0 where
   pub is-sum : sum ≡ xorBytes l r
-  pub fits-remote : fits (schemeOf w p) (value (ctx .tweak)) (triple l g r) remote sum ≡ true
-  pub fits-no-tag : fits (schemeOf w p) (value (ctx .tweak)) (triple l g r) tag sum ≡ false
+  pub fits-remote : fits (schemeOf w powers) (value (ctx .tweak)) (triple l g r) remote sum ≡ true
+  pub fits-no-tag : fits (schemeOf w powers) (value (ctx .tweak)) (triple l g r) tag sum ≡ false
 
 -- local ⊕ remote does not fit the sides
 unfoldable pub SumFails : List ℕ → List ℕ → Context → List ℕ → List ℕ → List ℕ → Type 0
-SumFails w p ctx l g r = fits (schemeOf w p) (value (ctx .tweak)) (triple l g r) remote (xorBytes l r) ≡ false
+SumFails w powers ctx l g r = fits (schemeOf w powers) (value (ctx .tweak)) (triple l g r) remote (xorBytes l r) ≡ false

@@ -51,7 +51,7 @@ returns c =
       hash-key = hash-key-is k size (c .before .before .before .before .powers .ensures .0) (c .before .before .before .before .before .load .ensures);
       ready = record {
         pads = record { table = start .pre .0; rounds = search needs; beta = c .encrypt2 .ensures };
-        powers = c .before .before .before .before .powers .ensures .1;
+        are-powers = c .before .before .before .before .powers .ensures .1;
         alpha = c .before .before .encrypt .ensures;
       };
     }
