@@ -96,7 +96,7 @@ pub fn done_number(d: Done) -> u8
 // ---- one rule each
 
 // The first refusal of two checks in this order.
-pub fn first_refusal(one: Done, other: Done) -> Done
+fn first_refusal(one: Done, other: Done) -> Done
     ensures { λ r. ⌜ doneOption r ≡ firstSome (doneOption one) (doneOption other) ⌝ }
 {
     match one {
@@ -259,7 +259,7 @@ pub fn check_open(key: &[u8], s: usize, out: usize, g: usize, side: u32) -> Done
 }
 
 // Refusals 1, 2 and 8, of every call on a volume.
-pub fn check_volume(key: &[u8], s: usize, n: usize, l: usize, g: usize, r: usize) -> Done
+fn check_volume(key: &[u8], s: usize, n: usize, l: usize, g: usize, r: usize) -> Done
     ensures { λ d. ⌜ firstOf (volumeRules (volume (keyFrom (now (key .entry))) s n) (shape s n l g r)) ≡ doneOption d ⌝ }
 {
     let keyed = check_key(key);
