@@ -11,6 +11,7 @@
 #define _POSIX_C_SOURCE 200809L
 #include <mirror.h>
 
+#include <errno.h>
 #include <fcntl.h>
 #include <stdio.h>
 #include <stdlib.h>
@@ -85,7 +86,7 @@ static void make(const char *path)
     need(folder >= 0, "there is no such folder");
     for (int i = 0; i < PLACES; i++) {
         places[i].file = openat(folder, places[i].name, O_RDWR | O_CREAT | O_EXCL, 0600);
-        need(places[i].file >= 0, "the folder has a volume already");
+        need(places[i].file >= 0, strerror(errno)); /* EEXIST: the folder has a volume already */
     }
     for (size_t number = 0; number < COUNT; number++) {
         expect("blank", mirror_volume_blank(&volume, number), MIRROR_DONE);

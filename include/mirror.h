@@ -279,7 +279,8 @@ MIRROR_ANSWER mirror_mend(const uint8_t *key, size_t key_len, size_t s, size_t n
 
 /*
  * Surveys a volume: judges every sector and writes the five counts. The number of each sector that is not whole stands once at the front
- * of list, in rising order: n - counts[MIRROR_COUNT_WHOLE] entries. Those behind are untouched. list_len counts entries, not bytes.
+ * of list: n - counts[MIRROR_COUNT_WHOLE] entries. Those behind are untouched. In this release the numbers rise; a later one may have
+ * another order. list_len counts entries, not bytes.
  *   1, 2, 8 as mirror_blank
  *   11 list_len is below n
  *   MIRROR_DONE: read each listed sector to learn its verdict; mend it if it is doubtful
@@ -345,12 +346,12 @@ static inline const char *mirror_text(uint32_t answer)
  *
  *   C99:    struct mirror_volume v = {.key = key, .key_len = sizeof key, .s = 512, .n = 4, .local = local, .local_len = sizeof local,
  *                                     .tags = tags, .tags_len = sizeof tags, .remote = remote, .remote_len = sizeof remote};
- *   C++11:  mirror_volume v = {key, sizeof key, 512, 4, local, sizeof local, tags, sizeof tags, remote, sizeof remote};
- *           or assign the fields: mirror_volume v = {}; v.key = key; ...
+ *   C++11:  mirror_volume v = {}; v.key = key; v.key_len = sizeof key; ...
  *   both:   uint32_t answer = mirror_volume_blank(&v, 2);
  *           if (answer != MIRROR_DONE) fprintf(stderr, "sector 2: %s\n", mirror_text(answer));
  *
- * A field that is left out of such a list is 0, and a length, s or n of 0 is refused. The images are without const, since most calls
+ * Name the fields, as here, since a later release may have more of them, in other places. A field that is left out is 0, and a length, s
+ * or n of 0 is refused. The images are without const, since most calls
  * write; for images that may only be read call mirror_read and mirror_survey themselves.
  */
 struct mirror_volume {

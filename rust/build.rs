@@ -70,7 +70,7 @@ fn what_to_do() -> String {
     };
     format!(
         "{what_is_wrong} Do one of these:
-- set MIRROR_LIB_DIR to the folder that has {ARCHIVE};
+- set MIRROR_LIB_DIR to the folder that has {ARCHIVE}, as an absolute path;
 - in the repository, run `rt staticlib mirror` at its root, and leave MIRROR_LIB_DIR unset;
 - install the library so that `pkg-config --exact-version={RELEASE} mirror` succeeds, and leave
   MIRROR_LIB_DIR unset (PKG_CONFIG_PATH names the folder of mirror.pc if it is not a usual one)."

@@ -110,7 +110,7 @@ pub enum Refusal {
 
 impl Refusal {
     /// All refusals, by their numbers.
-    pub const ALL: [Refusal; 11] = [
+    pub const ALL: &'static [Refusal] = &[
         Refusal::KeyLength,
         Refusal::SectorSize,
         Refusal::OtherLength,
@@ -131,7 +131,7 @@ impl Refusal {
 
     /// The refusal that has this number.
     pub fn from_number(number: u32) -> Option<Refusal> {
-        Self::ALL.into_iter().find(|r| r.number() == number)
+        Self::ALL.iter().copied().find(|r| r.number() == number)
     }
 
     fn what_is_wrong(self) -> &'static str {

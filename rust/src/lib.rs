@@ -130,9 +130,12 @@
 //! # Secrets
 //!
 //! Local and remote sector together give the plaintext **without** the key
-//! ([`combine`]). One key, address and plaintext always give the same bytes. A
-//! call does not wipe what it leaves on the stack, and its time may depend on
-//! secret bytes. What an attacker can guess or forge is no claim of the library.
+//! ([`combine`]). The hash key must not be zero; no call checks that. One key
+//! belongs to one volume: key, address and plaintext alone decide all bytes, so
+//! under one key equal sectors at equal addresses look equal, and a sector of one
+//! volume is accepted in the other. A call does not wipe what it leaves on the
+//! stack, and its time depends on secret bytes. What an attacker can guess or forge
+//! is no claim of the library.
 //!
 //! # Memory and threads
 //!

@@ -173,9 +173,10 @@ impl<I: AsRef<[u8]>> Volume<'_, I> {
 
     /// Surveys the volume: judges every sector and counts the verdicts.
     ///
-    /// The number of each sector that is not whole, once each and in rising
-    /// order, is written to the front of the list, which is given back cut to
-    /// these. Entries behind are untouched.
+    /// The number of each sector that is not whole is written once to the front
+    /// of the list, which is given back cut to these. Entries behind are
+    /// untouched. In this release the numbers rise; a later one may have another
+    /// order.
     ///
     /// # Errors
     ///

@@ -9,9 +9,12 @@ use std::ptr::{null, null_mut};
 
 #[test]
 fn refusals_have_the_numbers_1_to_11() {
-    let numbers: Vec<u32> = Refusal::ALL.map(Refusal::number).to_vec();
+    let numbers: Vec<u32> = Refusal::ALL
+        .iter()
+        .map(|refusal| refusal.number())
+        .collect();
     assert_eq!(numbers, (1..=11).collect::<Vec<u32>>());
-    for refusal in Refusal::ALL {
+    for &refusal in Refusal::ALL {
         assert_eq!(Refusal::from_number(refusal.number()), Some(refusal));
     }
     for number in [0, 12, 0x81, u32::MAX] {
@@ -49,7 +52,7 @@ fn verdicts_and_sides_have_their_numbers() {
 
 #[test]
 fn each_refusal_says_what_is_wrong_and_what_to_do() {
-    let texts = Refusal::ALL.map(|refusal| refusal.to_string());
+    let texts: Vec<String> = Refusal::ALL.iter().map(Refusal::to_string).collect();
     for text in &texts {
         let (wrong, what_to_do) = text.split_once(": ").expect("two parts");
         assert!(!wrong.is_empty() && !what_to_do.is_empty(), "{text}");

@@ -13,7 +13,9 @@ fn line(number: u32, text: &str) -> String {
 #[test]
 fn the_texts_are_those_that_are_stored() {
     let places = [Place::Local, Place::Tag, Place::Remote];
-    let refusals = Refusal::ALL.map(|refusal| line(refusal.number(), &refusal.to_string()));
+    let refusals = Refusal::ALL.iter();
+    let refusals = refusals.map(|refusal| line(refusal.number(), &refusal.to_string()));
+    let refusals: Vec<String> = refusals.collect();
     let doubtful = places.map(Verdict::Doubtful);
     let doubtful = doubtful.map(|verdict| line(verdict.number(), &verdict.to_string()));
     // The number 0 is two answers, done and whole; the wrapper has no one text.
