@@ -7,7 +7,7 @@ use native.Mathlib.Nat.{mod-lt}
 use native.Mathlib.Decide.{decLt, ℕ-discrete}
 use native.Mathlib.Omega.{arith}
 use lib.Dec.{eqb, lit<}
-use lib.ListN.{length, getD, set, length-set}
+use lib.ListN.{length, getD, set, replicate, length-set}
 use lib.Seq.{getD-set-same, getD-set-other, ext-getD, set-out}
 use borrow.Author.Tests.{eqb-true, eq-eqb}
 use Rattle.bits.specs.Bits.{digit, putDigit, num, Words, bit, mark, BitsFacts}
@@ -47,6 +47,16 @@ bit-mark-other j i b m n = ap (λ (d : ℕ). eqb d 1) (go (ℕ-discrete (j / 64)
 pub length-mark : (i : ℕ) (b : Bool) (m : List ℕ) → length (mark i b m) ≡ length m
 unfolding mark
 length-mark i b m = length-set m (i / 64) (putDigit (i % 64) (num b) (getD m (i / 64) 0))
+
+-- words of zeros
+getD-zeros : (n k : ℕ) → getD {A = ℕ} (replicate n 0) k 0 ≡ 0
+getD-zeros zero k = refl
+getD-zeros (suc n) zero = refl
+getD-zeros (suc n) (suc k) = getD-zeros n k
+
+pub bit-zeros : (n i : ℕ) → bit i (replicate n 0) ≡ false
+unfolding bit
+bit-zeros n i = ap (λ (w : ℕ). eqb (digit (i % 64) w) 1) (getD-zeros n (i / 64)) ∙ ap (λ (d : ℕ). eqb d 1) (digit-zero (i % 64))
 
 words-getD : (m : List ℕ) → Words m → (k : ℕ) → getD m k 0 < 2 ^ 64
 words-getD [] h k = lit< tt

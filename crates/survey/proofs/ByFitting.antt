@@ -1,16 +1,19 @@
 -- The survey's counts and list by fitting: what judging tells of each sector is what the verdict means. Assumes nothing.
 use mathlib.Core.Path.{_≡_, refl, sym, ap, subst, _∙_}
-use mathlib.Core.Logic.{_↔_}
-use mathlib.Core.Bool.{Bool, true, false, not}
+use mathlib.Core.Logic.{inl, inr, ⊎-elim, _↔_}
+use mathlib.Core.Bool.{Bool, true}
 use mathlib.Core.List.{List}
 use mathlib.Core.Option.{Option, none, some}
-use Prim.Native.Nat.{ℕ, _<_}
+use Prim.Native.Nat.{ℕ, suc, _<_, _≤_}
+use native.Mathlib.Decide.{decLt}
+use native.Mathlib.Omega.{arith}
+use lib.Dec.{eqb}
 use lib.ListN.{length}
-use borrow.Author.Tests.{not-true}
-use Rattle.block.proofs.Lists.{false-true, clash}
-use Rattle.mode.specs.Scheme.{Place, Scheme, Sector}
+use borrow.Author.Tests.{eq-eqb, eqb-true}
+use Rattle.block.proofs.Lists.{false-true}
+use Rattle.mode.specs.Scheme.{Place, isKey, isSize, Scheme, Sector}
 use Rattle.mode.specs.Sealing.{Triple, Key}
-use Rattle.answers.specs.Rules.{settleBy, volume}
+use Rattle.answers.specs.Rules.{settleBy, volume, isShape}
 use Rattle.verdict.specs.Verdict.{Verdict, whole, doubtful, lost, clashing, Means, judge, JudgeExact}
 use Rattle.verdict.proofs.JudgeExact.{judge-exact}
 use Rattle.history.specs.Answers.{isWhole, isDoubtful, isClashing, isLost}
@@ -22,7 +25,9 @@ use Rattle.answers.proofs.Passing.{Common, survey-passed}
 use Rattle.answers.proofs.Shapes.{shape-facts}
 use Rattle.history.proofs.Refusals.{shape-images}
 use Rattle.survey.specs.declared.Counts.{Counts}
-use Rattle.survey.specs.Survey.{chosen, tally, listed, health, countsOf, written, Report, refused, counted, verdictAt, surveyed, surveyRefusal, surveyOutcome, WholeAt, DoubtfulAt, ClashingAt, LostAt, Many, ByFitting}
+use Rattle.survey.specs.Survey.{numbers, tally, listed, health, countsOf, written, Report, refused, counted, verdictAt, surveyed, surveyRefusal, surveyOutcome, Fitting, WholeAt, DoubtfulAt, ClashingAt, LostAt, rank, Before, Lists, Many, ByFitting}
+use Rattle.survey.proofs.Orders.{lists-map, Earlier, earlier-asym, Ranked, rank-lists, ranks-append}
+use Rattle.survey.proofs.Once.{one-list, entries-apart}
 use Rattle.survey.proofs.Tallies.{chosen-lists, all-counted, health-most, health-full}
 
 -- ---- one sector
@@ -76,12 +81,16 @@ module _ (s : ℕ) (S : Scheme) (exact : JudgeExact s S) (T : ℕ) (t : Triple) 
       to lost e m = m
       to clashing e m = false-true e
 
-tie-not : {M : Type 0} (b : Bool) → (b ≡ true) ↔ M → (not b ≡ true) ↔ (M → ⊥)
-tie-not {M} b t = (λ e m. clash (t .1 m) (not-true b e), λ n. go b refl n)
-  where
-    go : (x : Bool) → b ≡ x → (M → ⊥) → not x ≡ true
-    go true e n = absurd (n (t .0 e))
-    go false e n = refl
+-- the tests of a verdict, by its rank
+by-rank : (w : Verdict) → (isLost w ≡ eqb (rank w) 0) × (isClashing w ≡ eqb (rank w) 1) × (isDoubtful w ≡ eqb (rank w) 2) × (isWhole w ≡ eqb (rank w) 3) × (rank w ≤ 3)
+unfolding isWhole isDoubtful isClashing isLost
+by-rank (whole P) = (refl, refl, refl, refl, omega arith)
+by-rank (doubtful d P) = (refl, refl, refl, refl, omega arith)
+by-rank lost = (refl, refl, refl, refl, omega arith)
+by-rank clashing = (refl, refl, refl, refl, omega arith)
+
+tie-rank : {b : Bool} {x r : ℕ} → b ≡ eqb x r → (b ≡ true) ↔ (x ≡ r)
+tie-rank {b} {x} {r} e = (λ d. eqb-true x r (sym e ∙ d), λ d. e ∙ eq-eqb x r d)
 
 -- ---- a survey that is not refused
 
@@ -120,10 +129,63 @@ module _ (v : Triple) (bytes : AnyBytes v) (k : Key) (s n : ℕ) (o : Common v (
 
   many : (P : ℕ → Type 0) (is : Verdict → Bool) → ((i : ℕ) → i < n → (is (w i) ≡ true) ↔ P i) → Many P n (tally is w n)
   unfolding tally
-  many P is t = (chosen (λ i. is (w i)) n, chosen-lists P (λ i. is (w i)) n t, refl)
+  many P is t = (numbers is w n, chosen-lists P (λ i. is (w i)) n t, refl)
+
+  -- ---- repair order
+
+  abbrev ranks : ℕ → ℕ
+  ranks i = rank (w i)
+
+  -- a sector has one verdict by fitting, the one that is worked out, so `Before` goes by the rank of that
+  fits-rank : (i : ℕ) → i < n → (a : Verdict) → Fitting k s v a i → ranks i ≡ rank a
+  unfolding w
+  fits-rank i lt a m = ap rank (exact i (sectorOf s i v) (sector-at i lt) a .1 m)
+
+  before-earlier : (i j : ℕ) → i < n → j < n → Before k s v i j → Earlier ranks i j
+  before-earlier i j h l b =
+      let x = fits-rank i h (b .first) (b .first-fits) in
+      let y = fits-rank j l (b .second) (b .second-fits) in
+      ⊎-elim (λ g. inl (omega arith)) (λ g. inr (omega arith, g .1)) (b .graver)
+
+  earlier-before : (i j : ℕ) → i < n → j < n → Earlier ranks i j → Before k s v i j
+  unfolding w
+  earlier-before i j h l e = record {
+    first = w i;
+    second = w j;
+    first-fits = exact i (sectorOf s i v) (sector-at i h) (w i) .0 refl;
+    second-fits = exact j (sectorOf s j v) (sector-at j l) (w j) .0 refl;
+    graver = e;
+  }
+
+  before-asym : (i j : ℕ) → i < n → j < n → Before k s v i j → Before k s v j i → ⊥
+  before-asym i j h l a b = earlier-asym ranks i j (before-earlier i j h l a) (before-earlier j i l h b)
+
+  -- the sectors of one kind
+  kind : (is : Verdict → Bool) (r : ℕ) → ((x : Verdict) → is x ≡ eqb (rank x) r) → Lists (Earlier ranks) (Ranked ranks r (suc r)) n (numbers is w n)
+  kind is r e = rank-lists ranks r n (numbers is w n) (chosen-lists (λ i. ranks i ≡ r) (λ i. is (w i)) n (λ i lt. tie-rank (e (w i))))
+
+  -- those that are not whole have the ranks below 3
+  not-whole-rank : (i : ℕ) → i < n → Ranked ranks 0 3 i ↔ (WholeAt k s v i → ⊥)
+  not-whole-rank i lt = (λ x a. omega (arith, three .0 (whole-at i lt .1 a)), λ a. (omega arith, go a (decLt (rank (w i)) 3)))
+    where
+      three : (isWhole (w i) ≡ true) ↔ (rank (w i) ≡ 3)
+      three = tie-rank (by-rank (w i) .3)
+
+      go : (WholeAt k s v i → ⊥) → Dec (rank (w i) < 3) → rank (w i) < 3
+      go a (yes d) = d
+      go a (no d) = absurd (a (whole-at i lt .0 (three .1 (omega (arith, by-rank (w i) .4)))))
+
+  -- the lost, then the clashing, then the doubtful ones
+  listed-lists : Lists (Before k s v) (λ i. WholeAt k s v i → ⊥) n (listed w n)
+  unfolding listed
+  listed-lists =
+      lists-map (λ i j h l p q. earlier-before i j h l) not-whole-rank
+      (ranks-append ranks 0 2 3 n _ _ (omega arith) (omega arith)
+      (ranks-append ranks 0 1 2 n _ _ (omega arith) (omega arith) (kind isLost 0 (λ x. by-rank x .0)) (kind isClashing 1 (λ x. by-rank x .1)))
+      (kind isDoubtful 2 (λ x. by-rank x .2)))
 
   accepted-fitting : (list : List ℕ) → ByFitting k s n v list (countsOf (verdictAt (mirror k) s v) n (health (tally isWhole (verdictAt (mirror k) s v) n) n)) (written (verdictAt (mirror k) s v) n list)
-  unfolding w health listed
+  unfolding w health listed many
   accepted-fitting list = record {
     whole-count = many (WholeAt k s v) isWhole whole-at;
     doubtful-count = many (DoubtfulAt k s v) isDoubtful (λ i lt. tie-doubtful s (mirror k) exact i (sectorOf s i v) (sector-at i lt));
@@ -136,7 +198,9 @@ module _ (v : Triple) (bytes : AnyBytes v) (k : Key) (s n : ℕ) (o : Common v (
         let f = health-full w n (shape-facts s n v (o .shape) .0) in
         (λ e i lt. whole-at i lt .0 (f .0 e i lt), λ a. f .1 (λ i lt. whole-at i lt .1 (a i lt)));
     front = listed w n;
-    not-whole = chosen-lists (λ i. WholeAt k s v i → ⊥) (λ i. not (isWhole (w i))) n (λ i lt. tie-not (isWhole (w i)) (whole-at i lt));
+    by-kind = refl;
+    not-whole = listed-lists;
+    once = entries-apart (Before k s v) n before-asym (λ i. WholeAt k s v i → ⊥) (listed w n) listed-lists;
     behind = refl;
   }
 
@@ -149,3 +213,8 @@ pub by-fitting : (v : Triple) → AnyBytes v → (k : Key) (s n : ℕ) (list : L
     → surveyOutcome v k s n list ≡ (counted c, after) → ByFitting k s n v list c after
 by-fitting v bytes k s n list c after e =
     of-outcome v k s n list (Fitted k s n v list) (λ o. accepted-fitting v bytes k s n o list) c after e
+
+-- there is one list in repair order
+pub repair-once : (v : Triple) → AnyBytes v → (k : Key) (s n : ℕ) → isKey k ≡ true → isSize s ≡ true → isShape s n v ≡ true
+    → (P : ℕ → Type 0) (l m : List ℕ) → Lists (Before k s v) P n l → Lists (Before k s v) P n m → l ≡ m
+repair-once v bytes k s n ek es eh = one-list (Before k s v) n (before-asym v bytes k s n (record { key = ek; size = es; shape = eh }))

@@ -1,3 +1,4 @@
+pub mod Orders
 pub mod Tallies
 pub mod Once
 pub mod Checks

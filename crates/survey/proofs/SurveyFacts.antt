@@ -19,7 +19,7 @@ use Rattle.history.proofs.Events.{run-bytes}
 use Rattle.answers.proofs.Passing.{Common}
 use Rattle.survey.specs.declared.Counts.{Counts}
 use Rattle.survey.specs.Survey.{tally, Report, refused, counted, verdictAt, surveyOutcome, LostAt, isKept, SurveyFacts}
-use Rattle.survey.proofs.ByFitting.{of-outcome, lost-at, by-fitting}
+use Rattle.survey.proofs.ByFitting.{of-outcome, lost-at, by-fitting, repair-once}
 use Rattle.survey.proofs.Checks.{accepts, survey-passes, survey-refused}
 use Rattle.survey.proofs.Once.{lists-once}
 use Rattle.survey.proofs.Tallies.{all-counted, apart}
@@ -63,6 +63,7 @@ module _ (vol : Volume) (v : Triple) (bytes : AnyBytes v) (es : List Event) (all
 pub survey-facts : SurveyFacts
 survey-facts = record {
   lists-once = lists-once;
+  repair-once = repair-once;
   accepts = accepts;
   refuses = λ v k s n list m. survey-refused v k s n list;
   answers = λ v k s n list e. survey-passes v k s n list e refl;

@@ -1,18 +1,23 @@
 -- The survey, sector by sector: what each verdict adds, the list, the loop and the prepared key. Assumes nothing.
 use mathlib.Core.Path.{_≡_, refl, sym, ap, ap₂, subst, _∙_}
 use mathlib.Core.Bool.{Bool, true, false, not, cond}
-use mathlib.Core.List.{List, [], _∷_, _++_, append-assoc}
-use Prim.Native.Nat.{ℕ, zero, suc, _+_, _-_, _<_, _≤_}
+use mathlib.Core.Logic.{_⊎_, inl, inr, ⊎-elim}
+use mathlib.Core.List.{List, [], _∷_, _++_}
+use Prim.Native.Nat.{ℕ, zero, suc, _+_, _*_, _/_, _<_, _≤_}
+use native.Mathlib.Decide.{decLt}
+use native.Mathlib.Nat.{le-of-eq}
 use native.Mathlib.Numerals.{add-one}
 use native.Mathlib.Omega.{arith}
 use lib.Dec.{eqb}
-use lib.ListN.{length, drop, set, length-append}
-use lib.Seq.{drop-cons, set-at}
+use lib.ListN.{length, drop, set, replicate, length-append, length-set, length-replicate}
+use lib.Seq.{sets, sets-eq}
 use borrow.Author.Tests.{eq-eqb, ne-eqb}
 use Rattle.mode.specs.declared.Context.{Context}
 use Rattle.mode.specs.Prepared.{PreparedFor, schemeOf}
 use Rattle.mode.specs.Scheme.{Scheme, dcm, scheme}
 use Rattle.mode.specs.Sealing.{tweak, sealed, triple, Key}
+use Rattle.bits.specs.Bits.{bit, mark}
+use Rattle.bits.proofs.Bits.{bit-mark-same, bit-mark-other, length-mark, bit-zeros}
 use Rattle.block.specs.declared.Block.{Block}
 use Rattle.block.specs.Value.{value}
 use Rattle.block.specs.Bytes.{part}
@@ -31,9 +36,9 @@ use Rattle.history.specs.Answers.{isWhole, isDoubtful, isClashing, isLost}
 use Rattle.history.specs.Volume.{mirror}
 use Rattle.images.specs.Lent.{placesOf}
 use Rattle.survey.specs.declared.Counts.{Counts}
-use Rattle.survey.specs.Survey.{chosen, tally, listed, health, countsOf, written, Report, counted, verdictAt, surveyed}
-use Rattle.survey.specs.Inner.{verdictBy, Tells, addIf, counting, CountsOne, ListsOne}
-use Rattle.survey.proofs.Tallies.{tally-none, tally-next, tally-le}
+use Rattle.survey.specs.Survey.{chosen, numbers, tally, listed, health, countsOf, Report, counted, verdictAt, surveyed}
+use Rattle.survey.specs.Inner.{verdictBy, Tells, addIf, counting, CountsOne, Maps, maps, markIf, marking, MarksOne, Sized, Empty, setBelow, inOrder, Found}
+use Rattle.survey.proofs.Tallies.{tally-next, tally-le, length-listed}
 
 -- ---- one sector: what the code's answer tells of the verdict
 
@@ -90,132 +95,280 @@ counts-one w z c ek el em en = λ i. record {
   health = c .health;
 }
 
--- the list with one sector more
-pub lists-one : {j : Judged} (at i : ℕ) (old : List ℕ) (b : Bool) → ((w : Verdict) → Tells j w → isWhole w ≡ b) → ListsOne j at i old (cond b old (set old at i))
-lists-one at i old b z w e = ap (λ (x : Bool). cond x old (set old at i)) (sym (z w e))
+-- the maps with one sector more
+pub marks-one : (w : Verdict) {a b x d : Bool} → Kind w a b x d → (i : ℕ) (m : Maps) {l c e : List ℕ}
+    → l ≡ markIf d i (m .lost) → c ≡ markIf x i (m .clashing) → e ≡ markIf b i (m .doubtful) → maps l c e ≡ marking w i m
+marks-one w z i m el ec ed = λ j. maps
+    ((el ∙ ap (λ (y : Bool). markIf y i (m .lost)) (sym (z .lost))) j)
+    ((ec ∙ ap (λ (y : Bool). markIf y i (m .clashing)) (sym (z .clashing))) j)
+    ((ed ∙ ap (λ (y : Bool). markIf y i (m .doubtful)) (sym (z .doubtful))) j)
 
--- ---- the list
+-- ---- the numbers in a map
 
-listed-next : (w : ℕ → Verdict) (n : ℕ) → listed w (suc n) ≡ cond (isWhole (w n)) (listed w n) (listed w n ++ n ∷ [])
-unfolding listed chosen
-listed-next w n = go (isWhole (w n))
+-- tests that agree below n choose the same
+chosen-same : (p q : ℕ → Bool) (n : ℕ) → ((i : ℕ) → i < n → p i ≡ q i) → chosen p n ≡ chosen q n
+unfolding chosen
+chosen-same p q zero e = refl
+chosen-same p q (suc n) e =
+    ap₂ (λ (b : Bool) (l : List ℕ). cond b (l ++ n ∷ []) l) (e n (omega arith)) (chosen-same p q n (λ i h. e i (omega arith)))
+
+-- the map has those of the first i numbers whose verdict passes, and room for n
+pub record Keeps (is : Verdict → Bool) (w : ℕ → Verdict) (n i : ℕ) (m : List ℕ) : Type 0 where
+  pub room : n ≤ 64 * length m
+  pub below : (j : ℕ) → j < i → bit j m ≡ is (w j)
+  pub beyond : (j : ℕ) → i ≤ j → bit j m ≡ false
+
+-- below i + 1
+earlier : (j i : ℕ) → j < suc i → (j < i) ⊎ (j ≡ i)
+earlier j i h = go (decLt j i)
   where
-    l : List ℕ
-    l = chosen (λ i. not (isWhole (w i))) n
+    go : Dec (j < i) → (j < i) ⊎ (j ≡ i)
+    go (yes k) = inl k
+    go (no k) = inr (omega arith)
 
-    go : (b : Bool) → cond (not b) (l ++ n ∷ []) l ≡ cond b l (l ++ n ∷ [])
-    go true = refl
-    go false = refl
+module _ (is : Verdict → Bool) (w : ℕ → Verdict) (n : ℕ) where
+  keeps-none : (m : List ℕ) → n ≤ 64 * length m → ((j : ℕ) → bit j m ≡ false) → Keeps is w n 0 m
+  keeps-none m room e = record { room = room; below = λ j h. absurd (omega arith); beyond = λ j h. e j }
 
-listed-none : (w : ℕ → Verdict) → listed w 0 ≡ []
-unfolding listed chosen
-listed-none w = refl
+  keeps-next : (i : ℕ) (m : List ℕ) → Keeps is w n i m → i < n → Keeps is w n (suc i) (markIf (is (w i)) i m)
+  keeps-next i m z h = go (is (w i)) refl
+    where
+      fits : i / 64 < length m
+      fits = let r = z .room in omega arith
 
-length-listed : (w : ℕ → Verdict) (n : ℕ) → length (listed w n) + tally isWhole w n ≡ n
-length-listed w zero = omega (arith, ap length (listed-none w), tally-none isWhole w)
-length-listed w (suc n) = rw (listed-next w n, tally-next isWhole w n) (go (isWhole (w n)) (length-listed w n))
-  where
-    go : (b : Bool) → length (listed w n) + tally isWhole w n ≡ n → length (cond b (listed w n) (listed w n ++ n ∷ [])) + addIf b (tally isWhole w n) ≡ suc n
-    go true e = omega arith
-    go false e = simp length-append (omega arith)
+      go : (b : Bool) → is (w i) ≡ b → Keeps is w n (suc i) (markIf b i m)
+      go true e = record {
+        room = let r = z .room in omega (arith, length-mark i true m);
+        below = λ j k. ⊎-elim (λ l. bit-mark-other j i true m (λ d. omega arith) ∙ z .below j l) (λ d. ap (λ (x : ℕ). bit x (mark i true m)) d ∙ bit-mark-same i true m fits ∙ sym (ap (λ (x : ℕ). is (w x)) d ∙ e)) (earlier j i k);
+        beyond = λ j k. bit-mark-other j i true m (λ d. omega arith) ∙ z .beyond j (omega arith);
+      }
+      go false e = record {
+        room = z .room;
+        below = λ j k. ⊎-elim (z .below j) (λ d. z .beyond j (omega arith) ∙ sym (ap (λ (x : ℕ). is (w x)) d ∙ e)) (earlier j i k);
+        beyond = λ j k. z .beyond j (omega arith);
+      }
 
--- ---- the loop
+  keeps-all : (m : List ℕ) → Keeps is w n n m → setBelow n m ≡ numbers is w n
+  keeps-all m z = chosen-same (λ i. bit i m) (λ i. is (w i)) n (z .below)
 
--- after the first i sectors, of a list that was `old`
-pub record Surveys (w : ℕ → Verdict) (old : List ℕ) (i : ℕ) (c : Counts) (list : List ℕ) : Type 0 where
+-- ---- judging them all
+
+pub record Kept (w : ℕ → Verdict) (n i : ℕ) (m : Maps) : Type 0 where
+  pub lost : Keeps isLost w n i (m .lost)
+  pub clashing : Keeps isClashing w n i (m .clashing)
+  pub doubtful : Keeps isDoubtful w n i (m .doubtful)
+
+-- After the first i of n sectors. The counts are no more than i.
+pub record Loop (w : ℕ → Verdict) (n i : ℕ) (c : Counts) (m : Maps) : Type 0 where
+  pub reached : i ≤ n
+  pub count : n ≤ 65536
   pub counts : c ≡ countsOf w i 0
-  pub entries : list ≡ written w i old
-  pub size : length list ≡ length old
   pub whole-most : c .whole ≤ i
   pub doubtful-most : c .doubtful ≤ i
   pub clashing-most : c .clashing ≤ i
   pub lost-most : c .lost ≤ i
+  pub kept : Kept w n i m
+  pub sized : Sized n m
 
--- the counts are no more than i, by what they are
-surveys : (w : ℕ → Verdict) (old : List ℕ) (i : ℕ) (c : Counts) (list : List ℕ) → c ≡ countsOf w i 0 → list ≡ written w i old → length list ≡ length old → Surveys w old i c list
-surveys w old i c list e d z = record {
-  counts = e;
-  entries = d;
-  size = z;
-  whole-most = subst (λ (x : Counts). x .whole ≤ i) (sym e) (tally-le isWhole w i);
-  doubtful-most = subst (λ (x : Counts). x .doubtful ≤ i) (sym e) (tally-le isDoubtful w i);
-  clashing-most = subst (λ (x : Counts). x .clashing ≤ i) (sym e) (tally-le isClashing w i);
-  lost-most = subst (λ (x : Counts). x .lost ≤ i) (sym e) (tally-le isLost w i);
-}
+pub record SameSizes (old new : Maps) : Type 0 where
+  pub lost : length (new .lost) ≡ length (old .lost)
+  pub clashing : length (new .clashing) ≡ length (old .clashing)
+  pub doubtful : length (new .doubtful) ≡ length (old .doubtful)
 
-module _ (w : ℕ → Verdict) (old : List ℕ) where
-  surveys-none : Surveys w old 0 (record { whole = 0; doubtful = 0; clashing = 0; lost = 0; health = 0 }) old
-  unfolding tally listed chosen
-  surveys-none = surveys w old 0 _ old refl refl refl
+kept-sized : {w : ℕ → Verdict} {n i : ℕ} {m : Maps} → Kept w n i m → Sized n m
+kept-sized z = record { lost = z .lost .room; clashing = z .clashing .room; doubtful = z .doubtful .room }
 
-  module _ (i : ℕ) where
-    -- the next entry is behind those that are written
-    entry : {c : Counts} {list : List ℕ} → Surveys w old i c list → i - c .whole ≡ length (listed w i)
-    entry v = let e : _ ≡ tally isWhole w i = ap (λ (x : Counts). x .whole) (v .counts) in omega (arith, length-listed w i)
-
-    counts-next : {c d : Counts} → c ≡ countsOf w i 0 → d ≡ counting (w i) c → d ≡ countsOf w (suc i) 0
-    counts-next e d = d ∙ ap (counting (w i)) e ∙ (λ j. record {
-      whole = sym (tally-next isWhole w i) j;
-      doubtful = sym (tally-next isDoubtful w i) j;
-      clashing = sym (tally-next isClashing w i) j;
-      lost = sym (tally-next isLost w i) j;
-      health = 0;
-    })
-
-    list-next : length (listed w i) < length old → {list new : List ℕ} → list ≡ written w i old → new ≡ cond (isWhole (w i)) list (set list (length (listed w i)) i) → new ≡ written w (suc i) old
-    list-next h {list} {new} e d = d ∙ go (isWhole (w i)) ∙ ap (λ (x : List ℕ). x ++ drop (length x) old) (sym (listed-next w i))
-      where
-        l : List ℕ
-        l = listed w i
-
-        go : (b : Bool) → cond b list (set list (length l) i) ≡ cond b l (l ++ i ∷ []) ++ drop (length (cond b l (l ++ i ∷ []))) old
-        go true = e
-        go false =
-            ap (λ (x : List ℕ). set x (length l) i) (e ∙ ap (λ (x : List ℕ). l ++ x) (drop-cons old (length l) 0 h))
-            ∙ set-at l _ (drop (suc (length l)) old) i (length l) refl
-            ∙ sym (append-assoc l (i ∷ []) (drop (suc (length l)) old))
-            ∙ ap (λ (k : ℕ). (l ++ i ∷ []) ++ drop k old) (sym (length-append l (i ∷ []) ∙ add-one (length l)))
-
-    surveys-next : {c d : Counts} {list new : List ℕ} (j : Judged) → Surveys w old i c list → i < length old → Tells j (w i)
-        → CountsOne j c d → ListsOne j (i - c .whole) i list new → length new ≡ length list → Surveys w old (i + 1) d new
-    surveys-next {c} {d} {list} {new} j v h e f g z =
-        let at : i - c .whole ≡ length (listed w i) = entry v in
-        let lt : length (listed w i) < length old = omega (arith, length-listed w i) in
-        let x : new ≡ cond (isWhole (w i)) list (set list (length (listed w i)) i) = g (w i) e ∙ ap (λ (k : ℕ). cond (isWhole (w i)) list (set list k i)) at in
-        subst (λ (k : ℕ). Surveys w old k d new) (sym (add-one i))
-        (surveys w old (suc i) d new (counts-next (v .counts) (f (w i) e)) (list-next lt (v .entries) x) (z ∙ v .size))
-
--- The loop over n sectors, at the number i.
-pub record Loop (w : ℕ → Verdict) (n : ℕ) (old : List ℕ) (i : ℕ) (c : Counts) (list : List ℕ) : Type 0 where
-  pub reached : i ≤ n
-  pub count : n ≤ 65536
-  pub room : n ≤ length old
-  pub surveys : Surveys w old i c list
-
-module _ (w : ℕ → Verdict) (n : ℕ) (old : List ℕ) where
-  pub loop-none : n ≤ 65536 → n ≤ length old → Loop w n old 0 (record { whole = 0; doubtful = 0; clashing = 0; lost = 0; health = 0 }) old
-  loop-none h room = record { reached = omega arith; count = h; room = room; surveys = surveys-none w old }
-
-  -- a turn, by what its three calls ensure
-  pub loop-next : {i : ℕ} {c d : Counts} {list new : List ℕ} {j : Judged} → Loop w n old i c list → i < n
-      → Tells j (w i) → CountsOne j c d → ListsOne j (i - c .whole) i list new → length new ≡ length list → Loop w n old (i + 1) d new
-  loop-next {i} {j = j} v lt e f g z = record {
-    reached = omega arith;
-    count = v .count;
-    room = v .room;
-    surveys = surveys-next w old i j (v .surveys) (omega (arith, v .room)) e f g z;
+module _ (w : ℕ → Verdict) (n : ℕ) where
+  -- by what the counts are
+  loop-at : (i : ℕ) (c : Counts) (m : Maps) → i ≤ n → n ≤ 65536 → c ≡ countsOf w i 0 → Kept w n i m → Loop w n i c m
+  loop-at i c m h k e z = record {
+    reached = h;
+    count = k;
+    counts = e;
+    whole-most = subst (λ (x : Counts). x .whole ≤ i) (sym e) (tally-le isWhole w i);
+    doubtful-most = subst (λ (x : Counts). x .doubtful ≤ i) (sym e) (tally-le isDoubtful w i);
+    clashing-most = subst (λ (x : Counts). x .clashing ≤ i) (sym e) (tally-le isClashing w i);
+    lost-most = subst (λ (x : Counts). x .lost ≤ i) (sym e) (tally-le isLost w i);
+    kept = z;
+    sized = kept-sized z;
   }
 
-  -- the health of them all
-  pub loop-all : {i h : ℕ} {c : Counts} {list : List ℕ} → Loop w n old i c list → n ≤ i → h ≡ health (c .whole) n
-      → surveyed w n old ≡ (counted (record { whole = c .whole; doubtful = c .doubtful; clashing = c .clashing; lost = c .lost; health = h }), list)
-  loop-all {i} {h} {c} {list} v ge d =
+  pub loop-none : (m : Maps) → n ≤ 65536 → Empty n m → Loop w n 0 (record { whole = 0; doubtful = 0; clashing = 0; lost = 0; health = 0 }) m
+  unfolding tally chosen
+  loop-none m h e = loop-at 0 _ m (omega arith) h refl (record {
+    lost = keeps-none isLost w n (m .lost) (e .sized .lost) (e .lost);
+    clashing = keeps-none isClashing w n (m .clashing) (e .sized .clashing) (e .clashing);
+    doubtful = keeps-none isDoubtful w n (m .doubtful) (e .sized .doubtful) (e .doubtful);
+  })
+
+  counts-next : (i : ℕ) {c d : Counts} → c ≡ countsOf w i 0 → d ≡ counting (w i) c → d ≡ countsOf w (suc i) 0
+  counts-next i e d = d ∙ ap (counting (w i)) e ∙ (λ j. record {
+    whole = sym (tally-next isWhole w i) j;
+    doubtful = sym (tally-next isDoubtful w i) j;
+    clashing = sym (tally-next isClashing w i) j;
+    lost = sym (tally-next isLost w i) j;
+    health = 0;
+  })
+
+  kept-next : {i : ℕ} {m : Maps} → Kept w n i m → i < n → Kept w n (suc i) (marking (w i) i m)
+  kept-next {i} {m} z h = record {
+    lost = keeps-next isLost w n i (m .lost) (z .lost) h;
+    clashing = keeps-next isClashing w n i (m .clashing) (z .clashing) h;
+    doubtful = keeps-next isDoubtful w n i (m .doubtful) (z .doubtful) h;
+  }
+
+  -- a turn, by what its three calls ensure
+  pub loop-next : {i : ℕ} {c d : Counts} {m new : Maps} {j : Judged} → Loop w n i c m → i < n
+      → Tells j (w i) → CountsOne j c d → MarksOne j i m new → Loop w n (i + 1) d new
+  loop-next {i} {c} {d} {m} {new} v lt e f g =
+      subst (λ (k : ℕ). Loop w n k d new) (sym (add-one i))
+      (loop-at (suc i) d new (omega arith) (v .count) (counts-next i (v .counts) (f (w i) e))
+      (subst (Kept w n (suc i)) (sym (g (w i) e)) (kept-next (v .kept) lt)))
+
+  -- all of them, and their health
+  pub loop-all : {i h : ℕ} {c : Counts} {m : Maps} → Loop w n i c m → n ≤ i → h ≡ health (c .whole) n
+      → Found w n (record { whole = c .whole; doubtful = c .doubtful; clashing = c .clashing; lost = c .lost; health = h }) m
+  unfolding listed
+  loop-all {i} {h} {c} {m} v ge d =
       let le : i ≤ n = v .reached in
       let e : i ≡ n = omega arith in
-      let z : Surveys w old n c list = subst (λ (k : ℕ). Surveys w old k c list) e (v .surveys) in
-      ap₂ (λ (x : Counts) (l : List ℕ). (counted (record { whole = x .whole; doubtful = x .doubtful; clashing = x .clashing; lost = x .lost; health = health (x .whole) n }), l))
-      (sym (z .counts)) (sym (z .entries))
-      ∙ ap (λ (k : ℕ). (counted (record { whole = c .whole; doubtful = c .doubtful; clashing = c .clashing; lost = c .lost; health = k }), list)) (sym d)
+      let z : Kept w n n m = subst (λ (k : ℕ). Kept w n k m) e (v .kept) in
+      record {
+        counts =
+            ap (λ (k : ℕ). record { whole = c .whole; doubtful = c .doubtful; clashing = c .clashing; lost = c .lost; health = k }) d
+            ∙ ap (λ (x : Counts). record { whole = x .whole; doubtful = x .doubtful; clashing = x .clashing; lost = x .lost; health = health (x .whole) n })
+            (v .counts ∙ ap (λ (k : ℕ). countsOf w k 0) e);
+        sized = v .sized;
+        numbers =
+            ap₂ (λ (l x : List ℕ). l ++ x)
+            (ap₂ (λ (l x : List ℕ). l ++ x) (keeps-all isLost w n (m .lost) (z .lost)) (keeps-all isClashing w n (m .clashing) (z .clashing)))
+            (keeps-all isDoubtful w n (m .doubtful) (z .doubtful));
+      }
+
+-- ---- listing the numbers
+
+-- numbers stored one behind the other, in two runs
+sets-append : (a b l : List ℕ) (i : ℕ) → sets l i (a ++ b) ≡ sets (sets l i a) (i + length a) b
+sets-append [] b l i = ap (λ (k : ℕ). sets l k b) (omega arith)
+sets-append (x ∷ a) b l i = sets-append a b (set l i x) (suc i) ∙ ap (λ (k : ℕ). sets (sets (set l i x) (suc i) a) k b) (omega arith)
+
+chosen-le : (p : ℕ → Bool) (i n : ℕ) → i ≤ n → length (chosen p i) ≤ length (chosen p n)
+unfolding chosen
+chosen-le p i zero h = let e : i ≡ 0 = omega arith in le-of-eq (ap (λ (k : ℕ). length (chosen p k)) e)
+chosen-le p i (suc n) h = ⊎-elim (λ k. let r = chosen-le p i n (omega arith) in go (p n) r) (λ e. le-of-eq (ap (λ (k : ℕ). length (chosen p k)) e)) (earlier i (suc n) (omega arith))
+  where
+    go : (b : Bool) → length (chosen p i) ≤ length (chosen p n) → length (chosen p i) ≤ length (cond b (chosen p n ++ n ∷ []) (chosen p n))
+    go true r = simp length-append (omega arith)
+    go false r = r
+
+-- The first i of n numbers of a map are listed, from an entry on.
+pub record Listing (m : List ℕ) (n : ℕ) (old : List ℕ) (at i next : ℕ) (list : List ℕ) : Type 0 where
+  pub reached : i ≤ n
+  pub room : at + length (setBelow n m) ≤ length old
+  pub entry : next ≡ at + length (setBelow i m)
+  pub entries : list ≡ sets old at (setBelow i m)
+  pub size : length list ≡ length old
+
+module _ (m : List ℕ) (n : ℕ) (old : List ℕ) (at : ℕ) where
+  pub listing-none : at + length (setBelow n m) ≤ length old → Listing m n old at 0 at old
+  unfolding chosen
+  listing-none h = record { reached = omega arith; room = h; entry = omega arith; entries = refl; size = refl }
+
+  -- the numbers at and below i
+  set-next : (i : ℕ) {b : Bool} → b ≡ bit i m → setBelow (i + 1) m ≡ cond b (setBelow i m ++ i ∷ []) (setBelow i m)
+  unfolding chosen
+  set-next i e = ap (λ (k : ℕ). setBelow k m) (add-one i) ∙ ap (λ (x : Bool). cond x (setBelow i m ++ i ∷ []) (setBelow i m)) (sym e)
+
+  module _ {i next : ℕ} {list : List ℕ} (v : Listing m n old at i next list) (h : i < n) {r : Bool} (e : r ≡ bit i m) where
+    -- where the bit is set, there is an entry for its number
+    pub listing-room : r ≡ true → next < length list
+    listing-room d =
+        let l = chosen-le (λ j. bit j m) (i + 1) n (omega arith) in
+        let k = ap length (set-next i (sym d ∙ e)) in
+        omega (arith, v .room, v .entry, v .size, length-append (setBelow i m) (i ∷ []))
+
+    pub listing-one : r ≡ true → {k : ℕ} {new : List ℕ} → new ≡ set list next i → k ≡ next + 1 → Listing m n old at (i + 1) k new
+    listing-one d el ek =
+        let s = set-next i (sym d ∙ e) in
+        record {
+          reached = omega arith;
+          room = v .room;
+          entry = omega (arith, v .entry, ek, ap length s, length-append (setBelow i m) (i ∷ []));
+          entries =
+              el
+              ∙ ap₂ (λ (l : List ℕ) (k : ℕ). set l k i) (v .entries) (v .entry)
+              ∙ sym (sets-append (setBelow i m) (i ∷ []) old at)
+              ∙ ap (sets old at) (sym s);
+          size = ap length el ∙ length-set list next i ∙ v .size;
+        }
+
+    pub listing-same : r ≡ false → {k : ℕ} {new : List ℕ} → new ≡ list → k ≡ next → Listing m n old at (i + 1) k new
+    listing-same d el ek =
+        let s = set-next i (sym d ∙ e) in
+        record {
+          reached = omega arith;
+          room = v .room;
+          entry = ek ∙ v .entry ∙ ap (λ (l : List ℕ). at + length l) (sym s);
+          entries = el ∙ v .entries ∙ ap (sets old at) (sym s);
+          size = ap length el ∙ v .size;
+        }
+
+  pub listing-all : {i next : ℕ} {list : List ℕ} → Listing m n old at i next list → n ≤ i → (next ≡ at + length (setBelow n m)) × (list ≡ sets old at (setBelow n m))
+  listing-all {i} v h =
+      let le : i ≤ n = v .reached in
+      let e : i ≡ n = omega arith in
+      (v .entry ∙ ap (λ (k : ℕ). at + length (setBelow k m)) e, v .entries ∙ ap (λ (k : ℕ). sets old at (setBelow k m)) e)
+
+-- the maps' numbers in three runs, each from the entry behind the last
+module _ (n : ℕ) (m : Maps) where
+  l : List ℕ
+  l = setBelow n (m .lost)
+
+  c : List ℕ
+  c = setBelow n (m .clashing)
+
+  d : List ℕ
+  d = setBelow n (m .doubtful)
+
+  -- there is room for each
+  pub runs-fit : {room : ℕ} → length (inOrder n m) ≤ room
+      → (0 + length (setBelow n (m .lost)) ≤ room)
+      × (0 + length (setBelow n (m .lost)) + length (setBelow n (m .clashing)) ≤ room)
+      × (0 + length (setBelow n (m .lost)) + length (setBelow n (m .clashing)) + length (setBelow n (m .doubtful)) ≤ room)
+  unfolding l c d
+  runs-fit h =
+      let e = length-append (l ++ c) d in
+      let f = length-append l c in
+      (omega arith, omega arith, omega arith)
+
+  pub runs-join : (old : List ℕ) {first second : ℕ} {one two three : List ℕ}
+      → first ≡ 0 + length (setBelow n (m .lost)) → one ≡ sets old 0 (setBelow n (m .lost))
+      → second ≡ first + length (setBelow n (m .clashing)) → two ≡ sets one first (setBelow n (m .clashing))
+      → three ≡ sets two second (setBelow n (m .doubtful)) → three ≡ sets old 0 (inOrder n m)
+  unfolding l c d
+  runs-join old {first} {second} {one} {two} {three} ef e1 es e2 e3 =
+      let both : second ≡ 0 + length (l ++ c) = omega (arith, ef, es, length-append l c) in
+      e3
+      ∙ ap₂ (λ (x : List ℕ) (k : ℕ). sets x k d) (e2 ∙ ap₂ (λ (x : List ℕ) (k : ℕ). sets x k c) e1 ef ∙ sym (sets-append l c old 0)) both
+      ∙ sym (sets-append (l ++ c) d old 0)
+
+-- ---- the survey, of what was found
+
+-- arrays of 1,024 words have a bit for each sector
+pub empty-maps : (n : ℕ) → n ≤ 65536 → let z : List ℕ = replicate 1024 0 in Empty n (maps z z z)
+empty-maps n h =
+    let room : n ≤ 64 * length {A = ℕ} (replicate 1024 0) = omega (arith, length-replicate {A = ℕ} 1024 0) in
+    record { sized = record { lost = room; clashing = room; doubtful = room }; lost = bit-zeros 1024; clashing = bit-zeros 1024; doubtful = bit-zeros 1024 }
+
+module _ {w : ℕ → Verdict} {n : ℕ} {c : Counts} {m : Maps} (f : Found w n c m) where
+  pub found-fits : (list : List ℕ) → n ≤ length list → length (inOrder n m) ≤ length list
+  found-fits list h = omega (arith, ap length (f .numbers), length-listed w n)
+
+  pub found-listed : (list : List ℕ) {new : List ℕ} → n ≤ length list → new ≡ sets list 0 (inOrder n m) → surveyed w n list ≡ (counted c, new)
+  found-listed list room e =
+      let k : 0 + length (listed w n) ≡ length (listed w n) = omega arith in
+      ap₂ (λ (x : Counts) (l : List ℕ). (counted x, l)) (sym (f .counts))
+      (sym (e ∙ ap (sets list 0) (f .numbers) ∙ sets-eq (listed w n) list 0 (omega (arith, length-listed w n)) ∙ ap (λ (j : ℕ). listed w n ++ drop j list) k))
 
 -- ---- the prepared key
 

@@ -1,62 +1,21 @@
 -- Laws of the numbers that pass a test, of their counts and of the health. Assumes nothing.
 use mathlib.Core.Path.{_≡_, refl, sym, ap, _∙_}
-use mathlib.Core.Logic.{_⊎_, inl, inr, ⊎-elim, _↔_}
+use mathlib.Core.Logic.{⊎-elim, _↔_}
 use mathlib.Core.Bool.{Bool, true, false, cond}
 use mathlib.Core.List.{List, [], _∷_, _++_, List·Memᴰ, List·Memᴰ·head, List·Memᴰ·not-nil, List·Memᴰ·append-cases, List·Memᴰ·eq-of-singleton, Memᴰ·append-left, Memᴰ·append-right}
 use Prim.Native.Nat.{ℕ, zero, suc, _+_, _*_, _/_, _<_, _≤_}
-use native.Mathlib.Decide.{ℕ-discrete, decLt}
+use native.Mathlib.Decide.{ℕ-discrete}
 use native.Mathlib.Nat.{div-le-of-le-mul, le-div-iff-mul-le, mul-div-cancel-left, mul-le-mul-right, le-of-eq}
 use native.Mathlib.Omega.{arith}
-use lib.ListN.{length, getD, length-append, List·getD-append}
-use lib.Seq.{getD-at}
+use lib.ListN.{length, length-append}
 use Rattle.block.proofs.Lists.{false-true, clash}
 use Rattle.verdict.specs.Verdict.{Verdict, whole, doubtful, lost, clashing}
 use Rattle.history.specs.Answers.{isWhole, isDoubtful, isClashing, isLost}
-use Rattle.survey.specs.Survey.{chosen, tally, health, Rises, Lists}
+use Rattle.survey.specs.Survey.{chosen, tally, listed, health, Sorted, Lists}
 use Rattle.survey.specs.Inner.{addIf}
+use Rattle.survey.proofs.Orders.{sorted-append}
 
 -- ---- the numbers that pass a test
-
--- an entry of a list with one number more
-snoc-at : (l : List ℕ) (x j : ℕ) → j < length (l ++ x ∷ [])
-    → ((j < length l) × (getD (l ++ x ∷ []) j 0 ≡ getD l j 0)) ⊎ ((length l ≡ j) × (getD (l ++ x ∷ []) j 0 ≡ x))
-snoc-at l x j h = go (decLt j (length l))
-  where
-    go : Dec (j < length l) → ((j < length l) × (getD (l ++ x ∷ []) j 0 ≡ getD l j 0)) ⊎ ((length l ≡ j) × (getD (l ++ x ∷ []) j 0 ≡ x))
-    go (yes k) = inl (k, List·getD-append l (x ∷ []) 0 j k)
-    go (no k) =
-        let m : j < length l + 1 = simp length-append at h in
-        let e : length l ≡ j = omega arith in
-        inr (e, getD-at l x [] 0 j e)
-
--- it rises, and lies below n
-record Climbs (n : ℕ) (l : List ℕ) : Type 0 where
-  rises : Rises l
-  below : (j : ℕ) → j < length l → getD l j 0 < n
-
-climbs-more : (n : ℕ) (l : List ℕ) → Climbs n l → Climbs (suc n) l
-climbs-more n l z = record { rises = z .rises; below = λ j h. let k = z .below j h in omega arith }
-
-climbs-snoc : (n : ℕ) (l : List ℕ) → Climbs n l → Climbs (suc n) (l ++ n ∷ [])
-climbs-snoc n l z = record {
-  rises = λ i j h k. ⊎-elim (inside i j h) (behind i j h) (snoc-at l n j k);
-  below = λ j k. ⊎-elim (λ a. let y = z .below j (a .0) in omega (arith, a .1)) (λ a. omega (arith, a .1)) (snoc-at l n j k);
-}
-  where
-    inside : (i j : ℕ) → i < j → (j < length l) × (getD (l ++ n ∷ []) j 0 ≡ getD l j 0) → getD (l ++ n ∷ []) i 0 < getD (l ++ n ∷ []) j 0
-    inside i j h a = let y = z .rises i j h (a .0) in omega (arith, a .1, List·getD-append l (n ∷ []) 0 i (omega (arith, a .0)))
-
-    behind : (i j : ℕ) → i < j → (length l ≡ j) × (getD (l ++ n ∷ []) j 0 ≡ n) → getD (l ++ n ∷ []) i 0 < getD (l ++ n ∷ []) j 0
-    behind i j h a = let lt : i < length l = omega (arith, a .0) in let y = z .below i lt in omega (arith, a .1, List·getD-append l (n ∷ []) 0 i lt)
-
-chosen-climbs : (p : ℕ → Bool) (n : ℕ) → Climbs n (chosen p n)
-unfolding chosen
-chosen-climbs p zero = record { rises = λ i j h k. absurd (omega arith); below = λ j h. absurd (omega arith) }
-chosen-climbs p (suc n) = go (p n) (chosen-climbs p n)
-  where
-    go : (b : Bool) → Climbs n (chosen p n) → Climbs (suc n) (cond b (chosen p n ++ n ∷ []) (chosen p n))
-    go true z = climbs-snoc n (chosen p n) z
-    go false z = climbs-more n (chosen p n) z
 
 -- what is chosen is below n and passes,
 chosen-passes : (p : ℕ → Bool) (n i : ℕ) → List·Memᴰ i (chosen p n) → (i < n) × (p i ≡ true)
@@ -87,14 +46,26 @@ passes-chosen p (suc n) i h e = go (p n) refl (ℕ-discrete i n) (λ lt. passes-
     go false d (yes z) r = clash e (ap p z ∙ d)
     go false d (no z) r = r (omega arith)
 
+-- they rise
+chosen-rises : (p : ℕ → Bool) (n : ℕ) → Sorted _<_ (chosen p n)
+unfolding chosen
+chosen-rises p zero = λ i j h k. absurd (omega arith)
+chosen-rises p (suc n) = go (p n) (chosen-rises p n)
+  where
+    go : (b : Bool) → Sorted _<_ (chosen p n) → Sorted _<_ (cond b (chosen p n ++ n ∷ []) (chosen p n))
+    go true up =
+        sorted-append _<_ (chosen p n) (n ∷ []) up (λ i j h k. absurd (omega arith))
+        (λ x y a b. omega (arith, chosen-passes p n x a, List·Memᴰ·eq-of-singleton b))
+    go false up = up
+
 -- the test passes the numbers that have a property
-pub chosen-lists : (P : ℕ → Type 0) (p : ℕ → Bool) (n : ℕ) → ((i : ℕ) → i < n → (p i ≡ true) ↔ P i) → Lists P n (chosen p n)
+pub chosen-lists : (P : ℕ → Type 0) (p : ℕ → Bool) (n : ℕ) → ((i : ℕ) → i < n → (p i ≡ true) ↔ P i) → Lists _<_ P n (chosen p n)
 chosen-lists P p n t = record {
   exactly = λ i. (
     λ m. let x = chosen-passes p n i m in (x .0, t i (x .0) .0 (x .1)),
     λ x. passes-chosen p n i (x .0) (t i (x .0) .1 (x .1)),
   );
-  rises = chosen-climbs p n .rises;
+  sorted = chosen-rises p n;
 }
 
 -- ---- counts
@@ -132,6 +103,11 @@ all-counted w zero = omega (arith, tally-none isWhole w, tally-none isDoubtful w
 all-counted w (suc n) =
     rw (tally-next isWhole w n, tally-next isDoubtful w n, tally-next isClashing w n, tally-next isLost w n)
     (one-kind (w n) (tally isWhole w n) (tally isDoubtful w n) (tally isClashing w n) (tally isLost w n) ∙ ap suc (all-counted w n))
+
+-- those that are not whole are listed
+pub length-listed : (w : ℕ → Verdict) (n : ℕ) → length (listed w n) + tally isWhole w n ≡ n
+unfolding listed tally
+length-listed w n = simp length-append (omega (arith, all-counted w n))
 
 -- where every number passes, and only there, the count is n
 tally-all : {A : Type 0} (is : A → Bool) (w : ℕ → A) (n : ℕ) → ((i : ℕ) → i < n → is (w i) ≡ true) → tally is w n ≡ n

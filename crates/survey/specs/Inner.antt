@@ -1,9 +1,10 @@
 -- What the inner functions give. Assumes nothing: these are definitions.
 use mathlib.Core.Path.{_≡_}
-use mathlib.Core.Bool.{Bool, cond}
-use mathlib.Core.List.{List}
-use Prim.Native.Nat.{ℕ, suc}
-use lib.ListN.{set}
+use mathlib.Core.Bool.{Bool, true, false, cond}
+use mathlib.Core.List.{List, _++_}
+use Prim.Native.Nat.{ℕ, suc, _*_, _≤_}
+use lib.ListN.{length}
+use Rattle.bits.specs.Bits.{bit, mark}
 use Rattle.mode.specs.Sealing.{tweak}
 use Rattle.mode.specs.Scheme.{Scheme}
 use Rattle.answers.specs.declared.Judged.{Judged}
@@ -13,6 +14,7 @@ use Rattle.verdict.specs.Verdict.{Verdict, judge}
 use Rattle.history.specs.Answers.{isWhole, isDoubtful, isClashing, isLost}
 use Rattle.images.specs.Lent.{placesOf}
 use Rattle.survey.specs.declared.Counts.{Counts}
+use Rattle.survey.specs.Survey.{chosen, tally, health, countsOf, listed}
 
 -- the verdicts by the mode, with the tweak of each number
 abbrev pub verdictBy : Scheme → ℕ → List ℕ → List ℕ → List ℕ → ℕ → Verdict
@@ -39,6 +41,53 @@ counting w c = record {
 abbrev pub CountsOne : Judged → Counts → Counts → Type 0
 CountsOne j c r = (w : Verdict) → Tells j w → r ≡ counting w c
 
--- the list has the number i at this entry, unless j tells that the sector is whole
-abbrev pub ListsOne : Judged → ℕ → ℕ → List ℕ → List ℕ → Type 0
-ListsOne j at i old new = (w : Verdict) → Tells j w → new ≡ cond (isWhole w) old (set old at i)
+-- ---- what was found, as bits: bit i for sector i, a map for each kind
+
+pub record Maps : Type 0 where
+  pub lost : List ℕ
+  pub clashing : List ℕ
+  pub doubtful : List ℕ
+
+abbrev pub maps : List ℕ → List ℕ → List ℕ → Maps
+maps l c d = record { lost = l; clashing = c; doubtful = d }
+
+abbrev pub markIf : Bool → ℕ → List ℕ → List ℕ
+markIf b i m = cond b (mark i true m) m
+
+abbrev pub marking : Verdict → ℕ → Maps → Maps
+marking w i m = record {
+  lost = markIf (isLost w) i (m .lost);
+  clashing = markIf (isClashing w) i (m .clashing);
+  doubtful = markIf (isDoubtful w) i (m .doubtful);
+}
+
+-- the maps have one more number, that of the sector of which j tells the verdict
+abbrev pub MarksOne : Judged → ℕ → Maps → Maps → Type 0
+MarksOne j i old new = (w : Verdict) → Tells j w → new ≡ marking w i old
+
+-- the maps have room for n numbers,
+pub record Sized (n : ℕ) (m : Maps) : Type 0 where
+  pub lost : n ≤ 64 * length (m .lost)
+  pub clashing : n ≤ 64 * length (m .clashing)
+  pub doubtful : n ≤ 64 * length (m .doubtful)
+
+-- and none in them
+pub record Empty (n : ℕ) (m : Maps) : Type 0 where
+  pub sized : Sized n m
+  pub lost : (i : ℕ) → bit i (m .lost) ≡ false
+  pub clashing : (i : ℕ) → bit i (m .clashing) ≡ false
+  pub doubtful : (i : ℕ) → bit i (m .doubtful) ≡ false
+
+-- the numbers below n in a map, rising
+abbrev pub setBelow : ℕ → List ℕ → List ℕ
+setBelow n m = chosen (λ i. bit i m) n
+
+-- those in all three, in repair order
+abbrev pub inOrder : ℕ → Maps → List ℕ
+inOrder n m = setBelow n (m .lost) ++ setBelow n (m .clashing) ++ setBelow n (m .doubtful)
+
+-- the counts and the maps of n sectors with these verdicts
+pub record Found (w : ℕ → Verdict) (n : ℕ) (c : Counts) (m : Maps) : Type 0 where
+  pub counts : c ≡ countsOf w n (health (tally isWhole w n) n)
+  pub sized : Sized n m
+  pub numbers : inOrder n m ≡ listed w n

@@ -1,8 +1,9 @@
--- The survey of a volume (document 01, "A volume"): what it refuses, counts and lists. Assumes nothing: these are definitions.
+-- The survey of a volume (document 01, "A volume", with change request S-1): what it refuses, counts and lists. Assumes nothing: these are
+-- definitions.
 -- `SurveyFacts`, at the end, states what is proved of them, as `survey-facts`.
 use mathlib.Core.Path.{_≡_}
-use mathlib.Core.Logic.{_↔_}
-use mathlib.Core.Bool.{Bool, true, false, not, cond}
+use mathlib.Core.Logic.{_⊎_, _↔_}
+use mathlib.Core.Bool.{Bool, true, false, cond}
 use mathlib.Core.List.{List, [], _∷_, _++_, List·Memᴰ}
 use mathlib.Core.Option.{Option, none, some}
 use Prim.Native.Nat.{ℕ, zero, suc, _+_, _*_, _/_, _<_, _≤_}
@@ -28,13 +29,17 @@ unfoldable pub chosen : (ℕ → Bool) → ℕ → List ℕ
 chosen p zero = []
 chosen p (suc n) = cond (p n) (chosen p n ++ n ∷ []) (chosen p n)
 
+-- those whose verdict passes a test
+abbrev pub numbers : {A : Type 0} → (A → Bool) → (ℕ → A) → ℕ → List ℕ
+numbers is w n = chosen (λ i. is (w i)) n
+
 -- how many they are
 unfoldable pub tally : {A : Type 0} → (A → Bool) → (ℕ → A) → ℕ → ℕ
-tally is w n = length (chosen (λ i. is (w i)) n)
+tally is w n = length (numbers is w n)
 
--- the numbers of the sectors that are not whole
+-- in repair order: the lost, then the clashing, then the doubtful sectors
 unfoldable pub listed : (ℕ → Verdict) → ℕ → List ℕ
-listed w n = chosen (λ i. not (isWhole (w i))) n
+listed w n = numbers isLost w n ++ numbers isClashing w n ++ numbers isDoubtful w n
 
 -- of n sectors: the whole ones in thousandths, rounded down
 unfoldable pub health : ℕ → ℕ → ℕ
@@ -101,18 +106,33 @@ module _ (k : Key) (s : ℕ) (v : Triple) where
   abbrev pub LostAt : ℕ → Type 0
   LostAt i = Fitting lost i
 
--- each entry is above those before it
-abbrev pub Rises : List ℕ → Type 0
-Rises l = (i j : ℕ) → i < j → j < length l → getD l i 0 < getD l j 0
+-- the kinds in repair order: the lower, the graver
+abbrev pub rank : Verdict → ℕ
+rank lost = 0
+rank clashing = 1
+rank (doubtful d P) = 2
+rank (whole P) = 3
 
--- l has the numbers below n that have the property P, each once, and no others
-pub record Lists (P : ℕ → Type 0) (n : ℕ) (l : List ℕ) : Type 0 where
+-- sector i stands before sector j in repair order: its kind is graver, or the same and its number lower
+pub record Before (k : Key) (s : ℕ) (v : Triple) (i j : ℕ) : Type 0 where
+  pub first : Verdict
+  pub second : Verdict
+  pub first-fits : Fitting k s v first i
+  pub second-fits : Fitting k s v second j
+  pub graver : (rank first < rank second) ⊎ ((rank first ≡ rank second) × (i < j))
+
+-- of two entries the earlier one has the relation R to the later
+abbrev pub Sorted : (ℕ → ℕ → Type 0) → List ℕ → Type 0
+Sorted R l = (i j : ℕ) → i < j → j < length l → R (getD l i 0) (getD l j 0)
+
+-- l has the numbers below n that have the property P, and no others, in the order R
+pub record Lists (R : ℕ → ℕ → Type 0) (P : ℕ → Type 0) (n : ℕ) (l : List ℕ) : Type 0 where
   pub exactly : (i : ℕ) → List·Memᴰ i l ↔ ((i < n) × P i)
-  pub rises : Rises l
+  pub sorted : Sorted R l
 
--- m of the numbers below n have it
+-- m of the numbers below n have it: here they are, rising
 abbrev pub Many : (ℕ → Type 0) → ℕ → ℕ → Type 0
-Many P n m = (l : List ℕ) × Lists P n l × (length l ≡ m)
+Many P n m = (l : List ℕ) × Lists _<_ P n l × (length l ≡ m)
 
 -- what the counts c, and the list `after` of a list that was `before`, say of n sectors of the images v
 pub record ByFitting (k : Key) (s n : ℕ) (v : Triple) (before : List ℕ) (c : Counts) (after : List ℕ) : Type 0 where
@@ -125,9 +145,13 @@ pub record ByFitting (k : Key) (s n : ℕ) (v : Triple) (before : List ℕ) (c :
   pub rounded-down : c .health ≡ c .whole * 1000 / n
   pub health-most : c .health ≤ 1000
   pub health-full : (c .health ≡ 1000) ↔ ((i : ℕ) → i < n → WholeAt k s v i)
-  -- the front of the list, and the entries behind
+  -- the front of the list: the lost, then the clashing, then the doubtful sectors that are counted above
   pub front : List ℕ
-  pub not-whole : Lists (λ i. WholeAt k s v i → ⊥) n front
+  pub by-kind : front ≡ lost-count .0 ++ clashing-count .0 ++ doubtful-count .0
+  -- so it has the numbers of the sectors that are not whole, in repair order, no two of them equal
+  pub not-whole : Lists (Before k s v) (λ i. WholeAt k s v i → ⊥) n front
+  pub once : Sorted (λ i j. i ≡ j → ⊥) front
+  -- the entries behind
   pub behind : after ≡ front ++ drop (length front) before
 
 -- ---- what is proved
@@ -137,8 +161,11 @@ isKept gone = false
 isKept (kept P d) = true
 
 pub record SurveyFacts : Type 1 where
-  -- there is one such list, so there is one such count
-  pub lists-once : (P : ℕ → Type 0) (n : ℕ) (l m : List ℕ) → Lists P n l → Lists P n m → l ≡ m
+  -- there is one such list, so there is one such count,
+  pub lists-once : (P : ℕ → Type 0) (n : ℕ) (l m : List ℕ) → Lists _<_ P n l → Lists _<_ P n m → l ≡ m
+  -- and one in repair order
+  pub repair-once : (v : Triple) → AnyBytes v → (k : Key) (s n : ℕ) → isKey k ≡ true → isSize s ≡ true → isShape s n v ≡ true
+      → (P : ℕ → Type 0) (l m : List ℕ) → Lists (Before k s v) P n l → Lists (Before k s v) P n m → l ≡ m
   -- with a key, a size, a shape and a list that are right a survey is not refused
   pub accepts : (v : Triple) (k : Key) (s n room : ℕ) → isKey k ≡ true → isSize s ≡ true → isShape s n v ≡ true → n ≤ room
       → surveyRefusal v k s n room ≡ none

@@ -6,15 +6,16 @@ use answers::Refusal;
 use mode::Masks;
 ghost use mathlib.Core.Path.{_≡_};
 ghost use mathlib.Core.Bool.{true};
-ghost use Prim.Native.Nat.{_<_, _≤_};
+ghost use Prim.Native.Nat.{_+_, _*_, _/_, _<_, _≤_};
 ghost use lib.ListN.{length};
+ghost use lib.Seq.{sets};
 ghost use Rattle.mode.specs.Prepared.{KeyReady, schemeOf};
 ghost use Rattle.mode.specs.Scheme.{isKey};
 ghost use Rattle.mode.specs.Sealing.{keyFrom, triple};
 ghost use Rattle.history.specs.Volume.{mirror};
 ghost use Rattle.images.specs.Lent.{Room, Within, Scratch};
 ghost use Rattle.survey.specs.Survey.{verdictAt, health, counted, surveyed, reportOf, surveyOutcome};
-ghost use Rattle.survey.specs.Inner.{verdictBy, Tells, CountsOne, ListsOne};
+ghost use Rattle.survey.specs.Inner.{verdictBy, Tells, CountsOne, MarksOne, maps, Empty, Sized, Found, setBelow, inOrder};
 
 // How many sectors have each verdict, and the whole ones in thousandths.
 pub struct Counts {
@@ -94,15 +95,18 @@ fn count_verdict(c: Counts, judged: Judged) -> Counts
     }
 }
 
-// Lists the number i at this entry, unless its sector is whole.
-fn list_number(list: &mut [u32], at: usize, i: usize, judged: Judged)
-    requires { ⌜ (at < length (now list)) × (i < 65536) ⌝ }
-    ensures { λ _. ⌜ ListsOne judged at i (now (list .entry)) (now (list .exit)) ⌝ }
+// Keeps the number i as a bit of its sector's kind. A whole sector has none.
+fn mark_kind(lost: &mut [u64], clashing: &mut [u64], doubtful: &mut [u64], i: usize, judged: Judged)
+    requires { ⌜ (i / 64 < length (now lost)) × (i / 64 < length (now clashing)) × (i / 64 < length (now doubtful)) ⌝ }
+    ensures { λ _. ⌜ MarksOne judged i (maps (now (lost .entry)) (now (clashing .entry)) (now (doubtful .entry))) (maps (now (lost .exit)) (now (clashing .exit)) (now (doubtful .exit))) ⌝ }
 {
     match judged {
         Judged::Whole => {}
-        Judged::Doubtful(_) => list[at] = i as u32,
-        Judged::Refused(_) => list[at] = i as u32,
+        Judged::Doubtful(_) => bits::set_bit(doubtful, i),
+        Judged::Refused(f) => match f {
+            Refusal::Lost => bits::set_bit(lost, i),
+            _ => bits::set_bit(clashing, i),
+        },
     }
 }
 
@@ -114,8 +118,8 @@ fn thousandths(whole: usize, n: usize) -> usize
     whole * 1000 / n
 }
 
-// The survey with a prepared key.
-fn survey_in<'k>(
+// Judges each sector once, with a prepared key: counts it, and keeps its number in the map of its kind.
+fn judge_all<'k>(
     t: &Table,
     w: &'k [u32],
     powers: &'k [u64; 18],
@@ -125,13 +129,15 @@ fn survey_in<'k>(
     local: &[u8],
     tags: &[u8],
     remote: &[u8],
-    list: &mut [u32],
+    lost: &mut [u64],
+    clashing: &mut [u64],
+    doubtful: &mut [u64],
     plain: &mut [u8],
     sum: &mut [u8],
     scratch: &mut [u8],
 ) -> Counts
-    requires { ⌜ KeyReady (now t) (now w) (now powers) (masks .alpha) (masks .beta) × Room s n (length (now local)) (length (now tags)) (length (now remote)) × (n ≤ length (now list)) × Scratch s (now plain) (now sum) (now scratch) ⌝ }
-    ensures { λ r. ⌜ surveyed (verdictBy (schemeOf (now (w .entry)) (now (powers .entry))) s (now (local .entry)) (now (tags .entry)) (now (remote .entry))) n (now (list .entry)) ≡ (counted r, now (list .exit)) ⌝ }
+    requires { ⌜ KeyReady (now t) (now w) (now powers) (masks .alpha) (masks .beta) × Room s n (length (now local)) (length (now tags)) (length (now remote)) × Empty n (maps (now lost) (now clashing) (now doubtful)) × Scratch s (now plain) (now sum) (now scratch) ⌝ }
+    ensures { λ r. ⌜ Found (verdictBy (schemeOf (now (w .entry)) (now (powers .entry))) s (now (local .entry)) (now (tags .entry)) (now (remote .entry))) n r (maps (now (lost .exit)) (now (clashing .exit)) (now (doubtful .exit))) ⌝ }
 {
     let mut counts = Counts {
         whole: 0,
@@ -156,13 +162,82 @@ fn survey_in<'k>(
             sum,
             scratch,
         );
-        let at = i - counts.whole;
-        list_number(list, at, i, judged);
+        mark_kind(lost, clashing, doubtful, i, judged);
         let next = count_verdict(counts, judged);
         counts = next;
         i += 1;
     }
     counts.health = thousandths(counts.whole, n);
+    counts
+}
+
+// Lists the numbers below n that are set in the map, from an entry on, and gives the entry behind.
+fn list_map(map: &[u64], n: usize, list: &mut [u32], at: usize) -> usize
+    requires { ⌜ (n ≤ 65536) × (n ≤ 64 * length (now map)) × (at + length (setBelow n (now map)) ≤ length (now list)) ⌝ }
+    ensures { λ r. ⌜ (r ≡ at + length (setBelow n (now (map .entry)))) × (now (list .exit) ≡ sets (now (list .entry)) at (setBelow n (now (map .entry)))) ⌝ }
+{
+    let mut next = at;
+    let mut i = 0usize;
+    while i < n {
+        if bits::test_bit(map, i) {
+            list[next] = i as u32;
+            next += 1;
+        }
+        i += 1;
+    }
+    next
+}
+
+// Lists the maps' numbers in repair order.
+fn list_all(lost: &[u64], clashing: &[u64], doubtful: &[u64], n: usize, list: &mut [u32])
+    requires { ⌜ (n ≤ 65536) × Sized n (maps (now lost) (now clashing) (now doubtful)) × (length (inOrder n (maps (now lost) (now clashing) (now doubtful))) ≤ length (now list)) ⌝ }
+    ensures { λ _. ⌜ now (list .exit) ≡ sets (now (list .entry)) 0 (inOrder n (maps (now (lost .entry)) (now (clashing .entry)) (now (doubtful .entry)))) ⌝ }
+{
+    let first = list_map(lost, n, list, 0);
+    let second = list_map(clashing, n, list, first);
+    list_map(doubtful, n, list, second);
+}
+
+// The survey with a prepared key. Up to 65,536 sectors have a bit each in three maps.
+fn survey_in<'k>(
+    t: &Table,
+    w: &'k [u32],
+    powers: &'k [u64; 18],
+    masks: Masks,
+    s: usize,
+    n: usize,
+    local: &[u8],
+    tags: &[u8],
+    remote: &[u8],
+    list: &mut [u32],
+    plain: &mut [u8],
+    sum: &mut [u8],
+    scratch: &mut [u8],
+) -> Counts
+    requires { ⌜ KeyReady (now t) (now w) (now powers) (masks .alpha) (masks .beta) × Room s n (length (now local)) (length (now tags)) (length (now remote)) × (n ≤ length (now list)) × Scratch s (now plain) (now sum) (now scratch) ⌝ }
+    ensures { λ r. ⌜ surveyed (verdictBy (schemeOf (now (w .entry)) (now (powers .entry))) s (now (local .entry)) (now (tags .entry)) (now (remote .entry))) n (now (list .entry)) ≡ (counted r, now (list .exit)) ⌝ }
+{
+    let mut lost = [0u64; 1024];
+    let mut clashing = [0u64; 1024];
+    let mut doubtful = [0u64; 1024];
+    let counts = judge_all(
+        t,
+        w,
+        powers,
+        masks,
+        s,
+        n,
+        local,
+        tags,
+        remote,
+        &mut lost,
+        &mut clashing,
+        &mut doubtful,
+        plain,
+        sum,
+        scratch,
+    );
+    list_all(&lost, &clashing, &doubtful, n, list);
     counts
 }
 

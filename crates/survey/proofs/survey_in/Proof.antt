@@ -1,82 +1,62 @@
-use Prim.Native.Nat.{_-_}
-use native.Mathlib.Omega.{arith}
-use Rattle.mode.specs.Prepared.{schemeOf}
-use Rattle.survey.specs.Inner.{verdictBy}
-use Rattle.images.specs.Lent.{Scratch}
-use Rattle.images.proofs.Rooms.{within-room}
-use Rattle.survey.proofs.Surveying.{Loop, loop-none, loop-next, loop-all}
+use Rattle.survey.proofs.Surveying.{empty-maps, found-fits, found-listed}
 use borrow.Author.Needs.{needs}
 use Rattle.survey.proofs.survey_in.Statement.{statement}
 use Rattle.survey.proofs.survey_in.Tie as tie
 
-abbrev Inv-loop : tie.InvT-loop
-Inv-loop t w powers masks s n local tags remote list₀ plain₀ sum₀ scratch₀ counts₀ i₀ list plain sum scratch counts i =
-    Loop (verdictBy (schemeOf w powers) s local tags remote) n list₀ i counts list × Scratch s plain sum scratch
+slice-aggregate-judge-all : tie.Need-slice-aggregate-judge-all
+slice-aggregate-judge-all c = search needs
 
-abbrev μ-loop : tie.MeasureT-loop
-μ-loop t w powers masks s n local tags remote list₀ plain₀ sum₀ scratch₀ counts₀ i₀ list plain sum scratch counts i =
-    n - i
+slice-aggregate-judge-all-2 : tie.Need-slice-aggregate-judge-all-2
+slice-aggregate-judge-all-2 c = search needs
 
-loop-holds : tie.Need-loop-holds Inv-loop μ-loop
-loop-holds c = search (needs, loop-none)
+slice-aggregate-judge-all-3 : tie.Need-slice-aggregate-judge-all-3
+slice-aggregate-judge-all-3 c = search needs
 
-judge-at-requires : tie.Need-judge-at-requires Inv-loop μ-loop
-judge-at-requires c κs = search (needs, within-room)
+judge-all-requires : tie.Need-judge-all-requires
+judge-all-requires c κs = (search needs, search needs, search (needs, empty-maps), search needs)
 
-sub-at : tie.Need-sub-at Inv-loop μ-loop
-sub-at c = search needs
+slice-aggregate-list-all : tie.Need-slice-aggregate-list-all
+slice-aggregate-list-all c = search needs
 
-list-number-requires : tie.Need-list-number-requires Inv-loop μ-loop
-list-number-requires c κs = search needs
+slice-aggregate-list-all-2 : tie.Need-slice-aggregate-list-all-2
+slice-aggregate-list-all-2 c = search needs
 
-count-verdict-requires : tie.Need-count-verdict-requires Inv-loop μ-loop
-count-verdict-requires c κs = search needs
+slice-aggregate-list-all-3 : tie.Need-slice-aggregate-list-all-3
+slice-aggregate-list-all-3 c = search needs
 
-add-i : tie.Need-add-i Inv-loop μ-loop
-add-i c = search needs
+list-all-requires : tie.Need-list-all-requires
+list-all-requires c κs =
+    let p = c .before .before .before .before .before .before .before .before .before .before .before .before .before .before .before .before .before .before .before .before .before .before .before .before .before .before .before .before .pre in
+    let f = c .before .before .before .before .before .before .before .before .before .before .before .before .before .judge-all .ensures in
+    (p .1 .count, f .sized, found-fits f (c .before .before .before .before .before .before .before .before .before .before .before .before .before .before .before .before .before .before .before .before .before .before .before .before .before .before .before .before .args .list .now) (p .2))
 
-loop-less : tie.Need-loop-less Inv-loop μ-loop
-loop-less c = search needs
-
-loop-again : tie.Need-loop-again Inv-loop μ-loop
-loop-again c = (
-  loop-next _ _ _ (search needs) (omega arith) (search needs) (c .count-verdict .ensures) (c .before .before .before .list-number .ensures) (search needs),
-  search needs,
-)
-
-thousandths-requires : tie.Need-thousandths-requires Inv-loop μ-loop
-thousandths-requires c κs = search needs
-
-same-length : tie.Need-same-length Inv-loop μ-loop
+same-length : tie.Need-same-length
 same-length c = search needs
 
-same-length-2 : tie.Need-same-length-2 Inv-loop μ-loop
+same-length-2 : tie.Need-same-length-2
 same-length-2 c = search needs
 
-same-length-3 : tie.Need-same-length-3 Inv-loop μ-loop
+same-length-3 : tie.Need-same-length-3
 same-length-3 c = search needs
 
-same-length-4 : tie.Need-same-length-4 Inv-loop μ-loop
+same-length-4 : tie.Need-same-length-4
 same-length-4 c = search needs
 
-returns : tie.Need-returns Inv-loop μ-loop
-returns c = search (needs, loop-all)
+returns : tie.Need-returns
+returns c = found-listed (c .before .before .before .before .before .before .before .before .before .before .before .before .before .before .before .before .judge-all .ensures) (c .before .before .before .before .before .before .before .before .before .before .before .before .before .before .before .before .before .before .before .before .before .before .before .before .before .before .before .before .before .before .before .args .list .now) (c .before .before .before .before .before .before .before .before .before .before .before .before .before .before .before .before .before .before .before .before .before .before .before .before .before .before .before .before .before .before .before .pre .2) (c .before .before .list-all .ensures)
 
 pub survey-in-spec : {M : Type 1} → statement M
 survey-in-spec =
     tie.close
     (tie.spec
-    Inv-loop
-    μ-loop
-    loop-holds
-    judge-at-requires
-    sub-at
-    list-number-requires
-    count-verdict-requires
-    add-i
-    loop-less
-    loop-again
-    thousandths-requires
+    slice-aggregate-judge-all
+    slice-aggregate-judge-all-2
+    slice-aggregate-judge-all-3
+    judge-all-requires
+    slice-aggregate-list-all
+    slice-aggregate-list-all-2
+    slice-aggregate-list-all-3
+    list-all-requires
     same-length
     same-length-2
     same-length-3
