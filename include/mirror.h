@@ -35,9 +35,9 @@
  * Any lengths and numbers are safe otherwise: wrong ones are refused.
  *
  * MEMORY AND THREADS. A call keeps no state between calls, allocates nothing and does no input or output. It needs memcpy and memset from
- * the C library and nothing else. It uses less than 20 KiB of stack (MIRROR_STACK_BYTES; measured, not proved). Calls may run at once in
- * several threads if no buffer that one of them may write is lent to another. A call on a volume is lent whole images, so on one volume
- * only reads and surveys may run at once.
+ * the C library and nothing else. It uses less than 48 KiB of stack (MIRROR_STACK_BYTES; measured, not proved); mirror_survey needs most.
+ * Calls may run at once in several threads if no buffer that one of them may write is lent to another. A call on a volume is lent whole
+ * images, so on one volume only reads and surveys may run at once.
  *
  * SECRETS. What an attacker can guess, forge or measure is no claim of this library; SECURITY.md in the source tree says more.
  *   - Local and remote sector together give the plaintext WITHOUT the key (mirror_combine): whoever may read both needs no key.
@@ -84,8 +84,8 @@
 #include <stdint.h>
 
 /* The release that this header is of: a number, major*1000000 + minor*1000 + patch, which #if can compare, and the same as a text. */
-#define MIRROR_VERSION 1000
-#define MIRROR_VERSION_TEXT "0.1.0"
+#define MIRROR_VERSION 2000
+#define MIRROR_VERSION_TEXT "0.2.0"
 
 /* Sizes in bytes, and the sectors of the largest volume. */
 #define MIRROR_KEY_BYTES 32
@@ -93,7 +93,7 @@
 #define MIRROR_SECTOR_BYTES_MIN 16
 #define MIRROR_SECTOR_BYTES_MAX 4096
 #define MIRROR_VOLUME_SECTORS_MAX 65536
-#define MIRROR_STACK_BYTES 20480
+#define MIRROR_STACK_BYTES 49152
 
 /* Sides. */
 #define MIRROR_SIDE_LOCAL 0u
@@ -279,11 +279,14 @@ MIRROR_ANSWER mirror_mend(const uint8_t *key, size_t key_len, size_t s, size_t n
 
 /*
  * Surveys a volume: judges every sector and writes the five counts. The number of each sector that is not whole stands once at the front
- * of list: n - counts[MIRROR_COUNT_WHOLE] entries. Those behind are untouched. In this release the numbers rise; a later one may have
- * another order. list_len counts entries, not bytes.
+ * of list: n - counts[MIRROR_COUNT_WHOLE] entries. Those behind are untouched. list_len counts entries, not bytes.
+ *
+ * The list is in repair order: the first counts[MIRROR_COUNT_LOST] entries are the lost sectors, the next counts[MIRROR_COUNT_CLASHING] the
+ * clashing ones, the next counts[MIRROR_COUNT_DOUBTFUL] the doubtful ones; within a kind the numbers rise. So no read is needed to tell the
+ * kinds, and the list is one value for a key and a volume.
  *   1, 2, 8 as mirror_blank
  *   11 list_len is below n
- *   MIRROR_DONE: read each listed sector to learn its verdict; mend it if it is doubtful
+ *   MIRROR_DONE: go by MIRROR_REFUSED_LOST and MIRROR_REFUSED_CLASHING above for the lost and the clashing sectors, and mend the doubtful
  */
 MIRROR_ANSWER mirror_survey(const uint8_t *key, size_t key_len, size_t s, size_t n, const uint8_t *local, size_t local_len,
                             const uint8_t *tags, size_t tags_len, const uint8_t *remote, size_t remote_len, uint32_t *list,
@@ -407,7 +410,7 @@ static inline MIRROR_ANSWER mirror_volume_mend(const struct mirror_volume *v, si
     return mirror_mend(v->key, v->key_len, v->s, v->n, number, v->local, v->local_len, v->tags, v->tags_len, v->remote, v->remote_len);
 }
 
-/* mirror_survey: the numbers of the sectors that are not whole go to list, which has n entries or more. */
+/* mirror_survey: the numbers of the sectors that are not whole go to list, which has n entries or more: lost, clashing, doubtful. */
 static inline MIRROR_ANSWER mirror_volume_survey(const struct mirror_volume *v, uint32_t *list, size_t list_len,
                                                  uint64_t counts[MIRROR_COUNTS_LENGTH])
 {

@@ -193,7 +193,7 @@ static void constants(void)
     IS(MIRROR_SECTOR_BYTES_MIN, 16);
     IS(MIRROR_SECTOR_BYTES_MAX, 4096);
     IS(MIRROR_VOLUME_SECTORS_MAX, 65536);
-    IS(MIRROR_STACK_BYTES, 20480);
+    IS(MIRROR_STACK_BYTES, 49152);
     IS(MIRROR_SIDE_LOCAL, 0);
     IS(MIRROR_SIDE_REMOTE, 1);
     IS(MIRROR_DONE, 0);
@@ -565,11 +565,29 @@ static void damage_all(void)
     REFUSES(MIRROR_REFUSED_LOST, mirror_mend(VOLUME, 2, IMAGES));
 }
 
+/* So many entries of the list, from `at` on, are sectors of which a read answers this. Gives the entry behind them. */
+static size_t listed(size_t at, uint64_t count, uint32_t answer)
+{
+    for (; count > 0; count--, at++) {
+        answers(answer, mirror_read(VOLUME, list[at], IMAGES, OUT), __LINE__, "reading a listed sector");
+    }
+    return at;
+}
+
+/* The counts tell which entries of the list are of which kind. The doubtful one of damage_all is so at its tag. */
+static void kinds_by_counts(void)
+{
+    size_t at = listed(0, counts[MIRROR_COUNT_LOST], MIRROR_REFUSED_LOST);
+    at = listed(at, counts[MIRROR_COUNT_CLASHING], MIRROR_REFUSED_CLASHING);
+    at = listed(at, counts[MIRROR_COUNT_DOUBTFUL], MIRROR_DOUBTFUL_TAG);
+    check(at == COUNT - counts[MIRROR_COUNT_WHOLE], __LINE__, "mirror_survey", "lists more or fewer than are not whole");
+}
+
 static void surveys(void)
 {
     const uint64_t all_whole[MIRROR_COUNTS_LENGTH] = {3, 0, 0, 0, 1000}, one_whole[MIRROR_COUNTS_LENGTH] = {1, 0, 1, 1, 333};
     const uint64_t none_whole[MIRROR_COUNTS_LENGTH] = {0, 1, 1, 1, 0};
-    const uint32_t all_three[COUNT] = {0, 1, 2}, two[2] = {0, 2};
+    const uint32_t all_three[COUNT] = {2, 0, 1}, two[2] = {2, 0}; /* lost, clashing, doubtful */
     GIVES(MIRROR_DONE, mirror_survey(VOLUME, IMAGES, LIST, counts));
     DUE(count_bytes, all_whole, sizeof all_whole);
     NO_MORE("mirror_survey of whole sectors");
@@ -578,12 +596,14 @@ static void surveys(void)
     DUE(count_bytes, none_whole, sizeof none_whole);
     DUE(list_bytes, all_three, sizeof all_three);
     NO_MORE("mirror_survey of damaged sectors");
+    kinds_by_counts();
     answers(MIRROR_DOUBTFUL_TAG, mirror_mend(VOLUME, 1, IMAGES), __LINE__, "mending sector 1");
     memset(list, 0x5a, ENTRIES * sizeof(uint32_t));
     GIVES(MIRROR_DONE, mirror_survey(VOLUME, IMAGES, LIST, counts));
     DUE(count_bytes, one_whole, sizeof one_whole);
     DUE(list_bytes, two, sizeof two);
     NO_MORE("mirror_survey after a mend");
+    kinds_by_counts();
     check(counts[MIRROR_COUNT_WHOLE] == 1 && counts[MIRROR_COUNT_DOUBTFUL] == 0 && counts[MIRROR_COUNT_CLASHING] == 1 &&
               counts[MIRROR_COUNT_LOST] == 1 && counts[MIRROR_COUNT_HEALTH] == 333,
           __LINE__, "mirror_survey", "the counts stand at other places");

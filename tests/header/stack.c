@@ -10,7 +10,7 @@
 #include <string.h>
 #include <ucontext.h>
 
-enum { ROOM = 65536, PAINT = 0xa5, TAG = MIRROR_TAG_BYTES };
+enum { ROOM = 131072, PAINT = 0xa5, TAG = MIRROR_TAG_BYTES };
 
 static uint8_t key[MIRROR_KEY_BYTES];
 static uint8_t plain[MIRROR_SECTOR_BYTES_MAX], local[MIRROR_SECTOR_BYTES_MAX], remote[MIRROR_SECTOR_BYTES_MAX], tag[TAG];
@@ -146,6 +146,10 @@ int main(void)
         most = calls[i].most > most ? calls[i].most : most;
     }
     free(stack);
+    if (calls[CALLS - 1].most < most) {
+        fprintf(stderr, "stack: another call than mirror_survey uses most, and the header says that it does\n");
+        return 1;
+    }
     if (most < 2 * MIRROR_SECTOR_BYTES_MAX || most >= MIRROR_STACK_BYTES) {
         fprintf(stderr, "stack: measured %lu bytes, and the header says less than %d\n", (unsigned long)most, MIRROR_STACK_BYTES);
         return 1;
