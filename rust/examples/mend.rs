@@ -3,7 +3,7 @@
 //!
 //! `cargo run --example mend`
 
-use mirror::{Refusal, Volume, KEY_BYTES, TAG_BYTES};
+use mirror::{ByKind, Refusal, Volume, KEY_BYTES, TAG_BYTES};
 
 const SIZE: usize = 64;
 const COUNT: usize = 4;
@@ -71,10 +71,15 @@ fn lose(volume: &mut Volume<Vec<u8>>) -> Result<(), Refusal> {
 /// Prints a survey.
 fn show(volume: &Volume<Vec<u8>>, when: &str) -> Result<(), Refusal> {
     let mut list = [0; COUNT];
-    let (survey, not_whole) = volume.survey(&mut list)?;
+    let (survey, listed) = volume.survey(&mut list)?;
+    let ByKind {
+        lost,
+        clashing,
+        doubtful,
+    } = survey.by_kind(listed);
     println!(
-        "{when}: {} whole, {} doubtful, {} clashing, {} lost, health {}; not whole: {not_whole:?}",
-        survey.whole, survey.doubtful, survey.clashing, survey.lost, survey.health
+        "{when}: {} whole, health {}; lost {lost:?}, clashing {clashing:?}, doubtful {doubtful:?}",
+        survey.whole, survey.health
     );
     Ok(())
 }

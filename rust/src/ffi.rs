@@ -189,7 +189,8 @@ extern "C" {
     ) -> u32;
 
     /// Judges every sector. `counts` is given whole, doubtful, clashing, lost
-    /// and the health.
+    /// and the health; `list` the lost, then the clashing, then the doubtful
+    /// sectors, the numbers of each kind rising.
     pub fn mirror_survey(
         key: *const u8,
         key_len: usize,

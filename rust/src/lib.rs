@@ -139,9 +139,10 @@
 //!
 //! # Memory and threads
 //!
-//! A call keeps no state, allocates nothing and uses less than 20 KiB of stack
-//! (measured, not proved). It may be made from any thread. A call that writes
-//! borrows the whole volume, so on one volume only reads and surveys run at once.
+//! A call keeps no state, allocates nothing and uses less than 48 KiB of stack
+//! (measured, not proved); the survey needs most. It may be made from any thread.
+//! A call that writes borrows the whole volume, so on one volume only reads and
+//! surveys run at once.
 //!
 //! # The library
 //!
@@ -164,7 +165,7 @@ mod volume;
 pub use answer::{Place, Refusal, Side, Verdict};
 pub use sector::{combine, judge, open, rebuild, seal};
 pub use version::{version, VERSION};
-pub use volume::{Survey, Volume};
+pub use volume::{ByKind, Survey, Volume};
 
 /// The bytes of a key.
 pub const KEY_BYTES: usize = 32;

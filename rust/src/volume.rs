@@ -175,8 +175,10 @@ impl<I: AsRef<[u8]>> Volume<'_, I> {
     ///
     /// The number of each sector that is not whole is written once to the front
     /// of the list, which is given back cut to these. Entries behind are
-    /// untouched. In this release the numbers rise; a later one may have another
-    /// order.
+    /// untouched. The numbers come in repair order: first the lost sectors, then
+    /// the clashing, then the doubtful; within a kind they rise. So the list is
+    /// one value for a key and a volume, and [`Survey::by_kind`] tells the kinds
+    /// without a read.
     ///
     /// # Errors
     ///
@@ -404,7 +406,9 @@ impl<I: AsRef<[u8]> + AsMut<[u8]>> Volume<'_, I> {
     }
 }
 
-/// What a survey counts. The first four add up to the count of sectors.
+/// What a survey counts. The first four add up to the count of sectors. The list
+/// that comes with it has the kinds in another order; see
+/// [`by_kind`](Survey::by_kind).
 #[derive(Clone, Copy, Debug, PartialEq, Eq, Hash)]
 pub struct Survey {
     /// How many sectors are whole.
@@ -425,6 +429,48 @@ impl Survey {
         self.doubtful + self.clashing + self.lost
     }
 
+    /// The listed numbers by kind: the first [`lost`](Self::lost) entries are the
+    /// lost sectors, the next [`clashing`](Self::clashing) the clashing ones, and
+    /// the next [`doubtful`](Self::doubtful) the doubtful ones.
+    ///
+    /// Give the list that came with these counts. Entries behind are left out. Of
+    /// another list it takes as many entries, whatever sectors they name.
+    ///
+    /// ```
+    /// use mirror::{ByKind, Refusal, Volume, KEY_BYTES};
+    ///
+    /// let key = [7; KEY_BYTES];
+    /// let mut volume = Volume::new(&key, 16, 4, vec![0; 64], vec![0; 64], vec![0; 64]);
+    /// for number in [0, 1, 3] {
+    ///     volume.blank(number)?;
+    /// }
+    /// volume.local_mut()[0] ^= 1;
+    ///
+    /// let mut list = [0; 4];
+    /// let (survey, listed) = volume.survey(&mut list)?;
+    /// let ByKind { lost, clashing, doubtful } = survey.by_kind(listed);
+    /// assert_eq!(lost, [2]); // never blanked
+    /// assert!(clashing.is_empty());
+    /// assert_eq!(doubtful, [0]);
+    /// # Ok::<(), Refusal>(())
+    /// ```
+    ///
+    /// # Panics
+    ///
+    /// If the list is shorter than [`not_whole`](Self::not_whole): it is not the
+    /// one that came with these counts.
+    #[track_caller]
+    pub fn by_kind<'l>(&self, listed: &'l [u32]) -> ByKind<'l> {
+        let (lost, others) = first_of(listed, self.lost);
+        let (clashing, others) = first_of(others, self.clashing);
+        let (doubtful, _) = first_of(others, self.doubtful);
+        ByKind {
+            lost,
+            clashing,
+            doubtful,
+        }
+    }
+
     /// The library's counts by their names. Each is at most 65,536, so no bits
     /// are lost.
     fn from_counts(counts: [u64; 5]) -> Survey {
@@ -437,4 +483,25 @@ impl Survey {
             health,
         }
     }
+}
+
+/// So many entries, and those behind.
+#[track_caller]
+fn first_of(list: &[u32], count: usize) -> (&[u32], &[u32]) {
+    list.split_at_checked(count)
+        .expect("the list has fewer entries than the survey counts: give the one that came with it")
+}
+
+/// A survey's list by kind, in the order of the list; see [`Survey::by_kind`].
+/// Within a kind the numbers rise.
+#[derive(Clone, Copy, Debug, PartialEq, Eq, Hash)]
+pub struct ByKind<'l> {
+    /// The lost sectors: no plaintext fits two places. Blank them, and write them
+    /// from a backup.
+    pub lost: &'l [u32],
+    /// The clashing ones: more than one plaintext fits two places. If a write was
+    /// under way, go on with it.
+    pub clashing: &'l [u32],
+    /// The doubtful ones: [`mend`](Volume::mend) them.
+    pub doubtful: &'l [u32],
 }

@@ -1,7 +1,8 @@
 //! The calls on a volume: each answer as the wrapper names it.
 
 use crate::common::{bytes, clashing, key, sealed, Triple, COUNT, SIZE};
-use mirror::{Place, Refusal, Side, Survey, Verdict, Volume, TAG_BYTES, VOLUME_SECTORS_MAX};
+use mirror::{ByKind, Place, Refusal, Side, Survey, Verdict, Volume};
+use mirror::{TAG_BYTES, VOLUME_SECTORS_MAX};
 
 /// A volume whose images are lent.
 type Lent<'a> = Volume<'a, &'a mut [u8]>;
@@ -224,8 +225,8 @@ fn surveys() {
         lost: 1,
         health: 0,
     };
-    assert_eq!(volume.survey(&mut list), Ok((due, &[0, 1, 2][..])));
-    assert_eq!(list, [0, 1, 2, 9, 9]);
+    assert_eq!(volume.survey(&mut list), Ok((due, &[2, 0, 1][..])));
+    assert_eq!(list, [2, 0, 1, 9, 9]);
 
     assert!(volume.mend(1).is_ok());
     let mut list = [9; COUNT];
@@ -236,12 +237,80 @@ fn surveys() {
         ..due
     };
     assert_eq!(due.not_whole(), 2);
-    assert_eq!(volume.survey(&mut list), Ok((due, &[0, 2][..])));
-    assert_eq!(list, [0, 2, 9]);
+    assert_eq!(volume.survey(&mut list), Ok((due, &[2, 0][..])));
+    assert_eq!(list, [2, 0, 9]);
 
     let short = volume.survey(&mut list[..COUNT - 1]);
     assert_eq!(short, Err(Refusal::ListLength));
-    assert_eq!(list, [0, 2, 9]);
+    assert_eq!(list, [2, 0, 9]);
+}
+
+/// Each sector stands among those of the kind that a read of it says.
+#[test]
+fn a_survey_by_kind() {
+    let key = key();
+    let mut images = damaged();
+    let volume = images.volume(&key);
+    let mut list = [9; COUNT];
+    let (survey, listed) = volume.survey(&mut list).expect("accepted");
+    let ByKind {
+        lost,
+        clashing,
+        doubtful,
+    } = survey.by_kind(listed);
+    assert_eq!((lost, clashing, doubtful), (&[2][..], &[0][..], &[1][..]));
+    let read = |numbers: &[u32]| volume.read(numbers[0] as usize, &mut [0; SIZE]);
+    assert_eq!(read(lost), Err(Refusal::Lost));
+    assert_eq!(read(clashing), Err(Refusal::Clashing));
+    assert_eq!(read(doubtful), Ok(Verdict::Doubtful(Place::Remote)));
+}
+
+/// Of these many sectors of each kind.
+fn counted(lost: usize, clashing: usize, doubtful: usize) -> Survey {
+    Survey {
+        whole: 5,
+        doubtful,
+        clashing,
+        lost,
+        health: 0,
+    }
+}
+
+#[test]
+fn by_kind_takes_as_many_as_are_counted() {
+    let listed = [7, 9, 2, 3, 8, 1, 4];
+    let due = ByKind {
+        lost: &[7, 9],
+        clashing: &[2, 3, 8],
+        doubtful: &[1],
+    };
+    // The entry behind is no kind's.
+    assert_eq!(counted(2, 3, 1).by_kind(&listed), due);
+    assert_eq!(counted(2, 3, 1).by_kind(&listed[..6]), due);
+    let due = ByKind {
+        lost: &[],
+        clashing: &[],
+        doubtful: &listed,
+    };
+    assert_eq!(counted(0, 0, 7).by_kind(&listed), due);
+    let none = ByKind {
+        doubtful: &[],
+        ..due
+    };
+    assert_eq!(counted(0, 0, 0).by_kind(&[]), none);
+}
+
+#[test]
+#[should_panic(expected = "fewer entries than the survey counts")]
+fn by_kind_of_a_list_that_is_too_short() {
+    counted(2, 1, 1).by_kind(&[1, 2, 3]);
+}
+
+/// These are no survey's counts, and their sum is no number.
+#[test]
+#[should_panic(expected = "fewer entries than the survey counts")]
+fn by_kind_of_counts_beyond_every_list() {
+    counted(1, usize::MAX, usize::MAX).by_kind(&[1, 2, 3]);
 }
 
 /// The answers of the seven calls on a volume, with an output and a plaintext of

@@ -1,10 +1,17 @@
 //! Surveys through the compiled library, each compared with the independent
-//! implementation: refusals, boundaries and the largest volume.
+//! implementation: refusals, boundaries, mixtures of all kinds of sectors and
+//! the largest volume.
 
+mod common;
+
+use common::rounds;
 use linked::both::Both;
-use reference::answer::Refusal;
+use reference::answer::{Place, Refusal};
+use reference::collide::blind_pair;
+use reference::field::{to_block, to_blocks, to_bytes};
 use reference::history::{Calls, Given, Images};
 use reference::rng::Rng;
+use reference::seal::{sealed, Sealed};
 
 fn volume(rng: &mut Rng, size: usize, count: usize) -> (Given, Images) {
     let given = Given {
@@ -79,4 +86,170 @@ fn the_largest_volume() {
         .survey(&given, &images, &mut list)
         .expect("the shape is right");
     assert_eq!((survey.whole, survey.lost), (4, count - 4));
+}
+
+/// What a sector is made to be.
+#[derive(Clone, Copy, PartialEq, Eq)]
+enum Kind {
+    Whole,
+    Doubtful(Place),
+    Clashing,
+    Lost,
+}
+
+/// Under any h but zero, from two blocks on.
+const ALL_KINDS: [Kind; 6] = [
+    Kind::Whole,
+    Kind::Doubtful(Place::Local),
+    Kind::Doubtful(Place::Tag),
+    Kind::Doubtful(Place::Remote),
+    Kind::Clashing,
+    Kind::Lost,
+];
+
+/// No two plaintexts of one block have equal tags, unless h is zero.
+const OF_ONE_BLOCK: [Kind; 5] = [
+    Kind::Whole,
+    Kind::Doubtful(Place::Local),
+    Kind::Doubtful(Place::Tag),
+    Kind::Doubtful(Place::Remote),
+    Kind::Lost,
+];
+
+/// Where h is zero all tags of an address are equal, and a damaged side clashes.
+const UNDER_H_ZERO: [Kind; 4] = [
+    Kind::Whole,
+    Kind::Doubtful(Place::Tag),
+    Kind::Clashing,
+    Kind::Lost,
+];
+
+fn flip(rng: &mut Rng, bytes: &mut [u8]) {
+    bytes[rng.below(bytes.len())] ^= 1 << rng.below(8);
+}
+
+/// Two plaintexts of one tag.
+fn of_equal_tag(rng: &mut Rng, given: &Given) -> (Vec<u8>, Vec<u8>) {
+    let (h, plaintext) = (to_block(&given.key[..16]), rng.bytes(given.size));
+    if given.size == 16 {
+        assert_eq!(h, 0);
+        return (plaintext, rng.bytes(16));
+    }
+    let (one, other) = blind_pair(h, &to_blocks(&plaintext), rng.next_u128());
+    (to_bytes(&one), to_bytes(&other))
+}
+
+fn sector(rng: &mut Rng, given: &Given, number: usize, kind: Kind) -> Sealed {
+    let sealed = |plaintext: &[u8]| sealed(&given.key, number as u64, plaintext);
+    let mut held = sealed(&rng.bytes(given.size));
+    match kind {
+        Kind::Whole => {}
+        Kind::Doubtful(place) => flip(rng, held.place_mut(place)),
+        Kind::Clashing => {
+            let (one, other) = of_equal_tag(rng, given);
+            held = sealed(&one);
+            held.remote = sealed(&other).remote;
+        }
+        Kind::Lost => {
+            let side = *rng.pick(&[Place::Local, Place::Remote]);
+            flip(rng, held.place_mut(side));
+            flip(rng, &mut held.tag);
+        }
+    }
+    held
+}
+
+/// A volume whose sectors are of these kinds.
+fn of_kinds(rng: &mut Rng, key: Vec<u8>, size: usize, kinds: &[Kind]) -> (Given, Images) {
+    let count = kinds.len();
+    let given = Given { key, size, count };
+    let (mut local, mut tag, mut remote) = (vec![], vec![], vec![]);
+    for (number, &kind) in kinds.iter().enumerate() {
+        let held = sector(rng, &given, number, kind);
+        local.extend(held.local);
+        tag.extend(held.tag);
+        remote.extend(held.remote);
+    }
+    (given, Images { local, tag, remote })
+}
+
+/// The numbers of the sectors of a kind, rising.
+fn numbers(kinds: &[Kind], is: impl Fn(&Kind) -> bool) -> Vec<u32> {
+    (0..)
+        .zip(kinds)
+        .filter(|(_, kind)| is(kind))
+        .map(|(number, _)| number)
+        .collect()
+}
+
+/// Surveys a volume whose sectors are of these kinds, with so many entries more
+/// than sectors in the list.
+fn insist_on_survey(given: &Given, images: &Images, kinds: &[Kind], more: usize) {
+    let filler = 0x5a5a_5a5a;
+    let mut list = vec![filler; given.count + more];
+    let found = Both.survey(given, images, &mut list);
+    let found = found.expect("the shape is right");
+    let lost = numbers(kinds, |&kind| kind == Kind::Lost);
+    let clashing = numbers(kinds, |&kind| kind == Kind::Clashing);
+    let doubtful = numbers(kinds, |kind| matches!(kind, Kind::Doubtful(_)));
+    assert_eq!(found.lost, lost.len());
+    assert_eq!(found.clashing, clashing.len());
+    assert_eq!(found.doubtful, doubtful.len());
+    let mut due = [lost, clashing, doubtful].concat();
+    assert_eq!(found.whole, given.count - due.len());
+    due.resize(list.len(), filler);
+    assert!(list == due, "another list");
+}
+
+/// Among the counts are those about multiples of 64, where a word of bits ends.
+#[test]
+fn mixtures_in_repair_order() {
+    let mut surveys = 0;
+    for round in 0..rounds(4) {
+        let mut rng = Rng::new(500 + round as u64);
+        for count in [1, 2, 63, 64, 65, 127, 128, 129, 1000] {
+            for (size, h_is_zero, choice) in [
+                (16, false, &OF_ONE_BLOCK[..]),
+                (16, true, &UNDER_H_ZERO),
+                (32, false, &ALL_KINDS),
+                (512, false, &ALL_KINDS),
+            ] {
+                let mut key = rng.bytes(32);
+                if h_is_zero {
+                    key[..16].fill(0);
+                }
+                let kinds: Vec<Kind> = (0..count).map(|_| *rng.pick(choice)).collect();
+                let (given, images) = of_kinds(&mut rng, key, size, &kinds);
+                insist_on_survey(&given, &images, &kinds, rng.below(3));
+                surveys += 1;
+            }
+        }
+    }
+    println!("{surveys} surveys of mixed sectors agree");
+}
+
+/// Each kind alone fills the list, or all of it but one entry.
+#[test]
+fn one_kind_and_one_other() {
+    let mut rng = Rng::new(52);
+    for kind in ALL_KINDS {
+        for other in ALL_KINDS {
+            for at in [0, 63, 64, 129] {
+                let mut kinds = [kind; 130];
+                kinds[at] = other;
+                let key = rng.bytes(32);
+                let (given, images) = of_kinds(&mut rng, key, 32, &kinds);
+                insist_on_survey(&given, &images, &kinds, 1);
+            }
+        }
+    }
+}
+
+#[test]
+fn the_largest_volume_of_all_kinds() {
+    let mut rng = Rng::new(53);
+    let kinds: Vec<Kind> = (0..65_536).map(|_| *rng.pick(&ALL_KINDS)).collect();
+    let key = rng.bytes(32);
+    let (given, images) = of_kinds(&mut rng, key, 32, &kinds);
+    insist_on_survey(&given, &images, &kinds, 0);
 }
