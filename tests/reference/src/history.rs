@@ -528,25 +528,61 @@ impl<'a> History<'a> {
         sealed.local == held.local && sealed.remote == held.remote && output != plaintext
     }
 
-    /// The survey says of all sectors what reads say of each.
+    /// The survey says of all sectors what reads say of each, and lists them in
+    /// repair order.
     fn check_survey(&mut self) {
         let count = self.given.count;
         let mut list = vec![u32::MAX; count];
         let found = self.calls.survey(&self.given, &self.images, &mut list);
         let found = found.expect("the volume's own shape");
-        let answers: Vec<_> = (0..count)
-            .map(|number| self.read(&self.images, number).map(|(verdict, _)| verdict))
+        let urgencies: Vec<_> = (0..count)
+            .map(|number| urgency(self.read(&self.images, number)))
             .collect();
-        let whole = |answer: &&_| **answer == Ok(Verdict::Whole);
-        assert_eq!(found.whole, answers.iter().filter(whole).count());
-        let listed: Vec<u32> = (0..count)
-            .filter(|&number| answers[number] != Ok(Verdict::Whole))
-            .map(|number| number as u32)
+        let [lost, clashing, doubtful, whole] =
+            [0, 1, 2, 3].map(|kind| urgencies.iter().filter(|&&of| of == kind).count());
+        let due = Survey {
+            whole,
+            doubtful,
+            clashing,
+            lost,
+            health: 1000 * whole / count,
+        };
+        assert_eq!(found, due);
+
+        let rising: Vec<u32> = (0..count as u32)
+            .filter(|&number| urgencies[number as usize] < 3)
             .collect();
-        assert_eq!(list[..listed.len()], listed);
-        assert!(list[listed.len()..].iter().all(|&entry| entry == u32::MAX));
-        let all = found.whole + found.doubtful + found.clashing + found.lost;
-        assert_eq!(all, count);
+        let mut due = rising.clone();
+        // This sort leaves numbers of one kind as they stand, rising.
+        due.sort_by_key(|&number| urgencies[number as usize]);
+        self.tally_list(&rising, &due, [lost, clashing, doubtful]);
+        due.resize(count, u32::MAX);
+        assert_eq!(list, due);
+    }
+
+    /// Notes the lists in which another order would show.
+    fn tally_list(&mut self, rising: &[u32], due: &[u32], kinds: [usize; 3]) {
+        if rising != due {
+            self.tally.add("seen a list that does not rise");
+        }
+        if kinds.iter().all(|&sectors| sectors > 0) {
+            self.tally.add("seen a list of all kinds");
+        }
+        if kinds.iter().any(|&sectors| sectors > 1) {
+            self.tally.add("seen a list with two of a kind");
+        }
+    }
+}
+
+/// Where repair order puts a sector of which a read says this: lost 0, clashing
+/// 1, doubtful 2, whole 3.
+fn urgency(read: Result<(Verdict, Vec<u8>), Refusal>) -> usize {
+    match read {
+        Err(Refusal::Lost) => 0,
+        Err(Refusal::Clashing) => 1,
+        Ok((Verdict::Doubtful(_), _)) => 2,
+        Ok((Verdict::Whole, _)) => 3,
+        Err(refusal) => panic!("a read refuses {refusal:?}"),
     }
 }
 
@@ -618,6 +654,9 @@ pub fn insist_on_variety(tally: &Tally) {
         "seen doubtful Tag",
         "seen doubtful Remote",
         "seen clashing",
+        "seen a list that does not rise",
+        "seen a list of all kinds",
+        "seen a list with two of a kind",
     ] {
         assert!(tally.get(what) > 0, "{what}");
     }

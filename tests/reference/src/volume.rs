@@ -151,8 +151,9 @@ pub fn mend(
     Ok(verdict)
 }
 
-/// Judges every sector, counts the verdicts and lists, in rising order, the
-/// numbers of the sectors that are not whole.
+/// Judges every sector, counts the verdicts and lists, in repair order, the
+/// numbers of the sectors that are not whole: first the lost, then the
+/// clashing, then the doubtful, rising within each kind.
 pub fn survey(
     key: &[u8],
     size: usize,
@@ -167,17 +168,23 @@ pub fn survey(
         return Err(Refusal::ShortList);
     }
     let mut survey = Survey::default();
-    let mut listed = 0;
+    let mut lost = Vec::new();
+    let mut clashing = Vec::new();
+    let mut doubtful = Vec::new();
     for number in 0..count {
         let verdict = sealer
             .judge(number as u64, &held(size, local, tag, remote, number))
             .map(|(verdict, _)| verdict);
         survey.add(verdict);
-        if verdict != Ok(Verdict::Whole) {
-            list[listed] = number as u32;
-            listed += 1;
+        match verdict {
+            Ok(Verdict::Whole) => {}
+            Ok(Verdict::Doubtful(_)) => doubtful.push(number as u32),
+            Err(Refusal::Clashing) => clashing.push(number as u32),
+            Err(_) => lost.push(number as u32),
         }
     }
+    let listed = [lost, clashing, doubtful].concat();
+    list[..listed.len()].copy_from_slice(&listed);
     survey.health = survey.whole * 1000 / count;
     Ok(survey)
 }

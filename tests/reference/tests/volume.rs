@@ -1,7 +1,8 @@
 //! The volume calls: what each writes, and every refusal in its order.
 
 use reference::answer::{answer_number, Place, Refusal, Verdict};
-use reference::field::to_bytes;
+use reference::collide::blind_pair;
+use reference::field::{to_block, to_bytes};
 use reference::rng::Rng;
 use reference::seal::sealed;
 use reference::volume::{
@@ -227,23 +228,56 @@ fn mend_restores_the_doubtful_place() {
     }
 }
 
+impl Volume {
+    /// A volume of sectors of these kinds: w whole, d doubtful, c clashing, l
+    /// lost. Clashes take two blocks.
+    fn of_kinds(rng: &mut Rng, size: usize, kinds: &str) -> Volume {
+        let mut volume = Volume::blanked(rng, size, kinds.len());
+        for (number, kind) in kinds.bytes().enumerate() {
+            // Doubtful sectors have all three places in turn.
+            let [one, another, _] = [0, 1, 2].map(|step| Place::ALL[(number + step) % 3]);
+            match kind {
+                b'w' => {}
+                b'd' => volume.place_mut(number, one)[3] ^= 4,
+                b'c' => volume.clash(number),
+                b'l' => {
+                    rng.fill(volume.place_mut(number, one));
+                    rng.fill(volume.place_mut(number, another));
+                }
+                _ => panic!("no kind {kind}"),
+            }
+        }
+        volume
+    }
+
+    /// Puts into a sector the sides of two plaintexts of equal tag.
+    fn clash(&mut self, number: usize) {
+        let zeros = vec![0; self.size / 16];
+        let (one, other) = blind_pair(to_block(&self.key[..16]), &zeros, 1);
+        let mut held = sealed(&self.key, number as u64, &to_bytes(&one));
+        held.remote = sealed(&self.key, number as u64, &to_bytes(&other)).remote;
+        for place in Place::ALL {
+            self.place_mut(number, place)
+                .copy_from_slice(held.place(place));
+        }
+    }
+
+    /// Whole, doubtful, clashing and lost sectors, and the list.
+    fn surveyed(&self) -> ([usize; 4], Vec<u32>) {
+        let filler = u32::MAX;
+        let mut list = vec![filler; self.count + 2];
+        let found = self.survey(&mut list).expect("accepted");
+        let listed = self.count - found.whole;
+        assert!(list[listed..].iter().all(|&entry| entry == filler));
+        list.truncate(listed);
+        let counts = [found.whole, found.doubtful, found.clashing, found.lost];
+        (counts, list)
+    }
+}
+
 /// A volume of four sectors: whole, doubtful, clashing, lost.
 fn one_of_each(rng: &mut Rng) -> Volume {
-    let mut volume = Volume::blanked(rng, 32, 4);
-    volume.place_mut(1, Place::Tag)[3] ^= 4;
-    let h = u128::from_be_bytes(volume.key[..16].try_into().expect("16 bytes"));
-    let one = sealed(&volume.key, 2, &to_bytes(&[h, 0]));
-    let other = sealed(&volume.key, 2, &to_bytes(&[h, 1]));
-    volume
-        .place_mut(2, Place::Local)
-        .copy_from_slice(&one.local);
-    volume.place_mut(2, Place::Tag).copy_from_slice(&one.tag);
-    volume
-        .place_mut(2, Place::Remote)
-        .copy_from_slice(&other.remote);
-    rng.fill(volume.place_mut(3, Place::Local));
-    rng.fill(volume.place_mut(3, Place::Remote));
-    volume
+    Volume::of_kinds(rng, 32, "wdcl")
 }
 
 #[test]
@@ -273,10 +307,11 @@ fn survey_counts_and_lists() {
         health: 250,
     };
     assert_eq!(volume.survey(&mut list), Ok(due));
-    assert_eq!(list, [1, 2, 3, 99, 99, 99]);
+    assert_eq!(list, [3, 2, 1, 99, 99, 99]);
 
     let mut exact = [99; 4];
     assert_eq!(volume.survey(&mut exact), Ok(due));
+    assert_eq!(exact, [3, 2, 1, 99]);
     let mut short = [99; 3];
     assert_eq!(volume.survey(&mut short), Err(Refusal::ShortList));
     assert_eq!(short, [99; 3]);
@@ -287,7 +322,52 @@ fn survey_counts_and_lists() {
     assert_eq!(volume.mend(1), Ok(Verdict::Doubtful(Place::Tag)));
     let found = volume.survey(&mut list).expect("accepted");
     assert_eq!((found.whole, found.health), (4, 1000));
-    assert_eq!(list, [1, 2, 3, 99, 99, 99]);
+    assert_eq!(list, [3, 2, 1, 99, 99, 99]);
+}
+
+#[test]
+fn the_list_is_in_repair_order() {
+    let mut rng = Rng::new(40);
+    let volume = Volume::of_kinds(&mut rng, 48, "dlcwcdlwldcdwlc");
+    let (lost, clashing, doubtful) = ([1, 6, 8, 13], [2, 4, 10, 14], [0, 5, 9, 11]);
+    let due = [lost, clashing, doubtful].concat();
+    assert_eq!(volume.surveyed(), ([3, 4, 4, 4], due));
+}
+
+#[test]
+fn two_kinds_in_repair_order() {
+    let mut rng = Rng::new(41);
+    for (kinds, counts, due) in [
+        ("ccdd", [0, 2, 2, 0], [0, 1, 2, 3]),
+        ("ddcc", [0, 2, 2, 0], [2, 3, 0, 1]),
+        ("dcdc", [0, 2, 2, 0], [1, 3, 0, 2]),
+        ("lldd", [0, 2, 0, 2], [0, 1, 2, 3]),
+        ("ddll", [0, 2, 0, 2], [2, 3, 0, 1]),
+        ("dldl", [0, 2, 0, 2], [1, 3, 0, 2]),
+        ("llcc", [0, 0, 2, 2], [0, 1, 2, 3]),
+        ("ccll", [0, 0, 2, 2], [2, 3, 0, 1]),
+        ("clcl", [0, 0, 2, 2], [1, 3, 0, 2]),
+    ] {
+        let volume = Volume::of_kinds(&mut rng, 32, kinds);
+        assert_eq!(volume.surveyed(), (counts, due.to_vec()), "{kinds}");
+    }
+}
+
+#[test]
+fn numbers_of_one_kind_rise() {
+    let mut rng = Rng::new(42);
+    for (kinds, counts, due) in [
+        ("lllll", [0, 0, 0, 5], &[0, 1, 2, 3, 4][..]),
+        ("ccccc", [0, 0, 5, 0], &[0, 1, 2, 3, 4]),
+        ("ddddd", [0, 5, 0, 0], &[0, 1, 2, 3, 4]),
+        ("wlwwl", [3, 0, 0, 2], &[1, 4]),
+        ("wcwwc", [3, 0, 2, 0], &[1, 4]),
+        ("wdwwd", [3, 2, 0, 0], &[1, 4]),
+        ("wwwww", [5, 0, 0, 0], &[]),
+    ] {
+        let volume = Volume::of_kinds(&mut rng, 32, kinds);
+        assert_eq!(volume.surveyed(), (counts, due.to_vec()), "{kinds}");
+    }
 }
 
 #[test]
@@ -318,6 +398,22 @@ fn the_largest_volume() {
     assert_eq!(list[..65_532], due);
     let found = volume.survey(&mut list[..count - 1]);
     assert_eq!(found, Err(Refusal::ShortList));
+}
+
+/// Every third sector is damaged, with the kinds by turns.
+#[test]
+fn the_largest_volume_in_repair_order() {
+    let kinds: String = "wdwwcwwlw".chars().cycle().take(65_536).collect();
+    let volume = Volume::of_kinds(&mut Rng::new(43), 32, &kinds);
+    let every_ninth_from = |first| (first..65_536).step_by(9);
+    let due: Vec<u32> = every_ninth_from(7)
+        .chain(every_ninth_from(4))
+        .chain(every_ninth_from(1))
+        .collect();
+    assert_eq!(due.len(), 21_845);
+    let (counts, list) = volume.surveyed();
+    assert_eq!(counts, [43_691, 7_282, 7_282, 7_281]);
+    assert!(list == due, "another list");
 }
 
 #[test]
