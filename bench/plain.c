@@ -185,22 +185,29 @@ uint32_t plain_mend(slice key, size_t s, size_t n, size_t number, slice_mut loca
     return verdict;
 }
 
+// Lists the sectors whose verdicts are from first to last, rising, and gives the entry behind.
+static uint32_t *list_kind(uint32_t *list, const uint8_t *verdicts, size_t n, uint8_t first, uint8_t last) {
+    for (size_t i = 0; i < n; i++) {
+        if (verdicts[i] >= first && verdicts[i] <= last) *list++ = (uint32_t)i;
+    }
+    return list;
+}
+
 uint32_t plain_survey(slice key, size_t s, size_t n, slice local, slice tags, slice remote, uint32_t *list, size_t list_length,
                       uint64_t counts[5]) {
-    uint8_t p[LARGEST];
-    uint64_t whole = 0, doubtful = 0, clashing = 0, lost = 0;
+    uint8_t p[LARGEST], verdicts[SECTORS];
     uint32_t refusal = check(key, s, n, local.length, tags.length, remote.length);
     if (refusal) return refusal;
     if (list_length < n) return LIST_LENGTH;
     prepared k = prepare(key.at, s / BLOCK);
     for (size_t i = 0; i < n; i++) {
-        uint32_t verdict = judge(&k, i, local.at + i * s, tags.at + i * BLOCK, remote.at + i * s, s / BLOCK, p);
-        if (verdict != WHOLE) *list++ = (uint32_t)i;
-        if (verdict == WHOLE) whole++;
-        else if (verdict == LOST) lost++;
-        else if (verdict == CLASHING) clashing++;
-        else doubtful++;
+        verdicts[i] = (uint8_t)judge(&k, i, local.at + i * s, tags.at + i * BLOCK, remote.at + i * s, s / BLOCK, p);
     }
-    counts[0] = whole, counts[1] = doubtful, counts[2] = clashing, counts[3] = lost, counts[4] = whole * 1000 / n;
+    uint32_t *clashing = list_kind(list, verdicts, n, LOST, LOST);
+    uint32_t *doubtful = list_kind(clashing, verdicts, n, CLASHING, CLASHING);
+    uint32_t *end = list_kind(doubtful, verdicts, n, DOUBTFUL_LOCAL, DOUBTFUL_REMOTE);
+    uint64_t whole = n - (size_t)(end - list);
+    counts[0] = whole, counts[1] = (uint64_t)(end - doubtful), counts[2] = (uint64_t)(doubtful - clashing);
+    counts[3] = (uint64_t)(clashing - list), counts[4] = whole * 1000 / n;
     return 0;
 }

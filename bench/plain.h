@@ -27,7 +27,7 @@ uint32_t plain_read(slice key, size_t s, size_t n, size_t number, slice local, s
 
 uint32_t plain_mend(slice key, size_t s, size_t n, size_t number, slice_mut local, slice_mut tags, slice_mut remote);
 
-// The counts are whole, doubtful, clashing, lost and the health.
+// The counts are whole, doubtful, clashing, lost and the health. The list has the lost, the clashing and the doubtful sectors, each rising.
 uint32_t plain_survey(slice key, size_t s, size_t n, slice local, slice tags, slice remote, uint32_t *list, size_t list_length,
                       uint64_t counts[5]);
 

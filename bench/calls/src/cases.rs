@@ -94,14 +94,12 @@ impl Case {
     }
 
     /// Makes each call by all implementations and ends the program unless the
-    /// answers and all lent bytes are the same. The survey's list may be in any
-    /// order.
+    /// answers and all lent bytes are the same.
     pub fn insist_on_agreement(&self, start: &Volume) {
         let mut volumes = [(); ALL.len()].map(|()| start.clone());
         for number in 0..self.calls(start) {
             for (implementation, volume) in ALL.iter().zip(&mut volumes) {
                 self.run(implementation, volume, number);
-                volume.list.sort_unstable();
             }
             for (implementation, volume) in ALL.iter().zip(&volumes).skip(1) {
                 if *volume != volumes[0] {
