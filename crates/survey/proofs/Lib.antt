@@ -5,3 +5,4 @@ pub mod Checks
 pub mod ByFitting
 pub mod SurveyFacts
 pub mod Surveying
+pub mod Listing

@@ -1,23 +1,20 @@
--- The survey, sector by sector: what each verdict adds, the list, the loop and the prepared key. Assumes nothing.
+-- The survey, sector by sector: what each verdict adds to the counts and to the maps, the loop and the prepared key. Assumes nothing.
 use mathlib.Core.Path.{_≡_, refl, sym, ap, ap₂, subst, _∙_}
-use mathlib.Core.Bool.{Bool, true, false, not, cond}
-use mathlib.Core.Logic.{_⊎_, inl, inr, ⊎-elim}
-use mathlib.Core.List.{List, [], _∷_, _++_}
-use Prim.Native.Nat.{ℕ, zero, suc, _+_, _*_, _/_, _<_, _≤_}
-use native.Mathlib.Decide.{decLt}
-use native.Mathlib.Nat.{le-of-eq}
+use mathlib.Core.Bool.{Bool, true, false, not}
+use mathlib.Core.Logic.{_⊎_, ⊎-elim}
+use mathlib.Core.List.{List, _++_}
+use Prim.Native.Nat.{ℕ, suc, _+_, _*_, _/_, _<_, _≤_}
 use native.Mathlib.Numerals.{add-one}
 use native.Mathlib.Omega.{arith}
 use lib.Dec.{eqb}
-use lib.ListN.{length, drop, set, replicate, length-append, length-set, length-replicate}
-use lib.Seq.{sets, sets-eq}
+use lib.ListN.{length}
 use borrow.Author.Tests.{eq-eqb, ne-eqb}
 use Rattle.mode.specs.declared.Context.{Context}
 use Rattle.mode.specs.Prepared.{PreparedFor, schemeOf}
 use Rattle.mode.specs.Scheme.{Scheme, dcm, scheme}
 use Rattle.mode.specs.Sealing.{tweak, sealed, triple, Key}
 use Rattle.bits.specs.Bits.{bit, mark}
-use Rattle.bits.proofs.Bits.{bit-mark-same, bit-mark-other, length-mark, bit-zeros}
+use Rattle.bits.proofs.Bits.{bit-mark-same, bit-mark-other, length-mark}
 use Rattle.block.specs.declared.Block.{Block}
 use Rattle.block.specs.Value.{value}
 use Rattle.block.specs.Bytes.{part}
@@ -36,9 +33,9 @@ use Rattle.history.specs.Answers.{isWhole, isDoubtful, isClashing, isLost}
 use Rattle.history.specs.Volume.{mirror}
 use Rattle.images.specs.Lent.{placesOf}
 use Rattle.survey.specs.declared.Counts.{Counts}
-use Rattle.survey.specs.Survey.{chosen, numbers, tally, listed, health, countsOf, Report, counted, verdictAt, surveyed}
-use Rattle.survey.specs.Inner.{verdictBy, Tells, addIf, counting, CountsOne, Maps, maps, markIf, marking, MarksOne, Sized, Empty, setBelow, inOrder, Found}
-use Rattle.survey.proofs.Tallies.{tally-next, tally-le, length-listed}
+use Rattle.survey.specs.Survey.{chosen, numbers, tally, listed, health, countsOf, Report, verdictAt, surveyed}
+use Rattle.survey.specs.Inner.{verdictBy, Tells, addIf, counting, CountsOne, Maps, maps, markIf, marking, MarksOne, Sized, Empty, setBelow, Found}
+use Rattle.survey.proofs.Tallies.{at-or-below, chosen-same, tally-next, tally-le}
 
 -- ---- one sector: what the code's answer tells of the verdict
 
@@ -105,26 +102,11 @@ marks-one w z i m el ec ed = λ j. maps
 
 -- ---- the numbers in a map
 
--- tests that agree below n choose the same
-chosen-same : (p q : ℕ → Bool) (n : ℕ) → ((i : ℕ) → i < n → p i ≡ q i) → chosen p n ≡ chosen q n
-unfolding chosen
-chosen-same p q zero e = refl
-chosen-same p q (suc n) e =
-    ap₂ (λ (b : Bool) (l : List ℕ). cond b (l ++ n ∷ []) l) (e n (omega arith)) (chosen-same p q n (λ i h. e i (omega arith)))
-
 -- the map has those of the first i numbers whose verdict passes, and room for n
 pub record Keeps (is : Verdict → Bool) (w : ℕ → Verdict) (n i : ℕ) (m : List ℕ) : Type 0 where
   pub room : n ≤ 64 * length m
   pub below : (j : ℕ) → j < i → bit j m ≡ is (w j)
   pub beyond : (j : ℕ) → i ≤ j → bit j m ≡ false
-
--- below i + 1
-earlier : (j i : ℕ) → j < suc i → (j < i) ⊎ (j ≡ i)
-earlier j i h = go (decLt j i)
-  where
-    go : Dec (j < i) → (j < i) ⊎ (j ≡ i)
-    go (yes k) = inl k
-    go (no k) = inr (omega arith)
 
 module _ (is : Verdict → Bool) (w : ℕ → Verdict) (n : ℕ) where
   keeps-none : (m : List ℕ) → n ≤ 64 * length m → ((j : ℕ) → bit j m ≡ false) → Keeps is w n 0 m
@@ -139,12 +121,12 @@ module _ (is : Verdict → Bool) (w : ℕ → Verdict) (n : ℕ) where
       go : (b : Bool) → is (w i) ≡ b → Keeps is w n (suc i) (markIf b i m)
       go true e = record {
         room = let r = z .room in omega (arith, length-mark i true m);
-        below = λ j k. ⊎-elim (λ l. bit-mark-other j i true m (λ d. omega arith) ∙ z .below j l) (λ d. ap (λ (x : ℕ). bit x (mark i true m)) d ∙ bit-mark-same i true m fits ∙ sym (ap (λ (x : ℕ). is (w x)) d ∙ e)) (earlier j i k);
+        below = λ j k. ⊎-elim (λ l. bit-mark-other j i true m (λ d. omega arith) ∙ z .below j l) (λ d. ap (λ (x : ℕ). bit x (mark i true m)) d ∙ bit-mark-same i true m fits ∙ sym (ap (λ (x : ℕ). is (w x)) d ∙ e)) (at-or-below j i k);
         beyond = λ j k. bit-mark-other j i true m (λ d. omega arith) ∙ z .beyond j (omega arith);
       }
       go false e = record {
         room = z .room;
-        below = λ j k. ⊎-elim (z .below j) (λ d. z .beyond j (omega arith) ∙ sym (ap (λ (x : ℕ). is (w x)) d ∙ e)) (earlier j i k);
+        below = λ j k. ⊎-elim (z .below j) (λ d. z .beyond j (omega arith) ∙ sym (ap (λ (x : ℕ). is (w x)) d ∙ e)) (at-or-below j i k);
         beyond = λ j k. z .beyond j (omega arith);
       }
 
@@ -244,131 +226,6 @@ module _ (w : ℕ → Verdict) (n : ℕ) where
             (ap₂ (λ (l x : List ℕ). l ++ x) (keeps-all isLost w n (m .lost) (z .lost)) (keeps-all isClashing w n (m .clashing) (z .clashing)))
             (keeps-all isDoubtful w n (m .doubtful) (z .doubtful));
       }
-
--- ---- listing the numbers
-
--- numbers stored one behind the other, in two runs
-sets-append : (a b l : List ℕ) (i : ℕ) → sets l i (a ++ b) ≡ sets (sets l i a) (i + length a) b
-sets-append [] b l i = ap (λ (k : ℕ). sets l k b) (omega arith)
-sets-append (x ∷ a) b l i = sets-append a b (set l i x) (suc i) ∙ ap (λ (k : ℕ). sets (sets (set l i x) (suc i) a) k b) (omega arith)
-
-chosen-le : (p : ℕ → Bool) (i n : ℕ) → i ≤ n → length (chosen p i) ≤ length (chosen p n)
-unfolding chosen
-chosen-le p i zero h = let e : i ≡ 0 = omega arith in le-of-eq (ap (λ (k : ℕ). length (chosen p k)) e)
-chosen-le p i (suc n) h = ⊎-elim (λ k. let r = chosen-le p i n (omega arith) in go (p n) r) (λ e. le-of-eq (ap (λ (k : ℕ). length (chosen p k)) e)) (earlier i (suc n) (omega arith))
-  where
-    go : (b : Bool) → length (chosen p i) ≤ length (chosen p n) → length (chosen p i) ≤ length (cond b (chosen p n ++ n ∷ []) (chosen p n))
-    go true r = simp length-append (omega arith)
-    go false r = r
-
--- The first i of n numbers of a map are listed, from an entry on.
-pub record Listing (m : List ℕ) (n : ℕ) (old : List ℕ) (at i next : ℕ) (list : List ℕ) : Type 0 where
-  pub reached : i ≤ n
-  pub room : at + length (setBelow n m) ≤ length old
-  pub entry : next ≡ at + length (setBelow i m)
-  pub entries : list ≡ sets old at (setBelow i m)
-  pub size : length list ≡ length old
-
-module _ (m : List ℕ) (n : ℕ) (old : List ℕ) (at : ℕ) where
-  pub listing-none : at + length (setBelow n m) ≤ length old → Listing m n old at 0 at old
-  unfolding chosen
-  listing-none h = record { reached = omega arith; room = h; entry = omega arith; entries = refl; size = refl }
-
-  -- the numbers at and below i
-  set-next : (i : ℕ) {b : Bool} → b ≡ bit i m → setBelow (i + 1) m ≡ cond b (setBelow i m ++ i ∷ []) (setBelow i m)
-  unfolding chosen
-  set-next i e = ap (λ (k : ℕ). setBelow k m) (add-one i) ∙ ap (λ (x : Bool). cond x (setBelow i m ++ i ∷ []) (setBelow i m)) (sym e)
-
-  module _ {i next : ℕ} {list : List ℕ} (v : Listing m n old at i next list) (h : i < n) {r : Bool} (e : r ≡ bit i m) where
-    -- where the bit is set, there is an entry for its number
-    pub listing-room : r ≡ true → next < length list
-    listing-room d =
-        let l = chosen-le (λ j. bit j m) (i + 1) n (omega arith) in
-        let k = ap length (set-next i (sym d ∙ e)) in
-        omega (arith, v .room, v .entry, v .size, length-append (setBelow i m) (i ∷ []))
-
-    pub listing-one : r ≡ true → {k : ℕ} {new : List ℕ} → new ≡ set list next i → k ≡ next + 1 → Listing m n old at (i + 1) k new
-    listing-one d el ek =
-        let s = set-next i (sym d ∙ e) in
-        record {
-          reached = omega arith;
-          room = v .room;
-          entry = omega (arith, v .entry, ek, ap length s, length-append (setBelow i m) (i ∷ []));
-          entries =
-              el
-              ∙ ap₂ (λ (l : List ℕ) (k : ℕ). set l k i) (v .entries) (v .entry)
-              ∙ sym (sets-append (setBelow i m) (i ∷ []) old at)
-              ∙ ap (sets old at) (sym s);
-          size = ap length el ∙ length-set list next i ∙ v .size;
-        }
-
-    pub listing-same : r ≡ false → {k : ℕ} {new : List ℕ} → new ≡ list → k ≡ next → Listing m n old at (i + 1) k new
-    listing-same d el ek =
-        let s = set-next i (sym d ∙ e) in
-        record {
-          reached = omega arith;
-          room = v .room;
-          entry = ek ∙ v .entry ∙ ap (λ (l : List ℕ). at + length l) (sym s);
-          entries = el ∙ v .entries ∙ ap (sets old at) (sym s);
-          size = ap length el ∙ v .size;
-        }
-
-  pub listing-all : {i next : ℕ} {list : List ℕ} → Listing m n old at i next list → n ≤ i → (next ≡ at + length (setBelow n m)) × (list ≡ sets old at (setBelow n m))
-  listing-all {i} v h =
-      let le : i ≤ n = v .reached in
-      let e : i ≡ n = omega arith in
-      (v .entry ∙ ap (λ (k : ℕ). at + length (setBelow k m)) e, v .entries ∙ ap (λ (k : ℕ). sets old at (setBelow k m)) e)
-
--- the maps' numbers in three runs, each from the entry behind the last
-module _ (n : ℕ) (m : Maps) where
-  l : List ℕ
-  l = setBelow n (m .lost)
-
-  c : List ℕ
-  c = setBelow n (m .clashing)
-
-  d : List ℕ
-  d = setBelow n (m .doubtful)
-
-  -- there is room for each
-  pub runs-fit : {room : ℕ} → length (inOrder n m) ≤ room
-      → (0 + length (setBelow n (m .lost)) ≤ room)
-      × (0 + length (setBelow n (m .lost)) + length (setBelow n (m .clashing)) ≤ room)
-      × (0 + length (setBelow n (m .lost)) + length (setBelow n (m .clashing)) + length (setBelow n (m .doubtful)) ≤ room)
-  unfolding l c d
-  runs-fit h =
-      let e = length-append (l ++ c) d in
-      let f = length-append l c in
-      (omega arith, omega arith, omega arith)
-
-  pub runs-join : (old : List ℕ) {first second : ℕ} {one two three : List ℕ}
-      → first ≡ 0 + length (setBelow n (m .lost)) → one ≡ sets old 0 (setBelow n (m .lost))
-      → second ≡ first + length (setBelow n (m .clashing)) → two ≡ sets one first (setBelow n (m .clashing))
-      → three ≡ sets two second (setBelow n (m .doubtful)) → three ≡ sets old 0 (inOrder n m)
-  unfolding l c d
-  runs-join old {first} {second} {one} {two} {three} ef e1 es e2 e3 =
-      let both : second ≡ 0 + length (l ++ c) = omega (arith, ef, es, length-append l c) in
-      e3
-      ∙ ap₂ (λ (x : List ℕ) (k : ℕ). sets x k d) (e2 ∙ ap₂ (λ (x : List ℕ) (k : ℕ). sets x k c) e1 ef ∙ sym (sets-append l c old 0)) both
-      ∙ sym (sets-append (l ++ c) d old 0)
-
--- ---- the survey, of what was found
-
--- arrays of 1,024 words have a bit for each sector
-pub empty-maps : (n : ℕ) → n ≤ 65536 → let z : List ℕ = replicate 1024 0 in Empty n (maps z z z)
-empty-maps n h =
-    let room : n ≤ 64 * length {A = ℕ} (replicate 1024 0) = omega (arith, length-replicate {A = ℕ} 1024 0) in
-    record { sized = record { lost = room; clashing = room; doubtful = room }; lost = bit-zeros 1024; clashing = bit-zeros 1024; doubtful = bit-zeros 1024 }
-
-module _ {w : ℕ → Verdict} {n : ℕ} {c : Counts} {m : Maps} (f : Found w n c m) where
-  pub found-fits : (list : List ℕ) → n ≤ length list → length (inOrder n m) ≤ length list
-  found-fits list h = omega (arith, ap length (f .numbers), length-listed w n)
-
-  pub found-listed : (list : List ℕ) {new : List ℕ} → n ≤ length list → new ≡ sets list 0 (inOrder n m) → surveyed w n list ≡ (counted c, new)
-  found-listed list room e =
-      let k : 0 + length (listed w n) ≡ length (listed w n) = omega arith in
-      ap₂ (λ (x : Counts) (l : List ℕ). (counted x, l)) (sym (f .counts))
-      (sym (e ∙ ap (sets list 0) (f .numbers) ∙ sets-eq (listed w n) list 0 (omega (arith, length-listed w n)) ∙ ap (λ (j : ℕ). listed w n ++ drop j list) k))
 
 -- ---- the prepared key
 

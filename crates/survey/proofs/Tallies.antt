@@ -1,10 +1,10 @@
 -- Laws of the numbers that pass a test, of their counts and of the health. Assumes nothing.
-use mathlib.Core.Path.{_≡_, refl, sym, ap, _∙_}
-use mathlib.Core.Logic.{⊎-elim, _↔_}
+use mathlib.Core.Path.{_≡_, refl, sym, ap, ap₂, _∙_}
+use mathlib.Core.Logic.{_⊎_, inl, inr, ⊎-elim, _↔_}
 use mathlib.Core.Bool.{Bool, true, false, cond}
 use mathlib.Core.List.{List, [], _∷_, _++_, List·Memᴰ, List·Memᴰ·head, List·Memᴰ·not-nil, List·Memᴰ·append-cases, List·Memᴰ·eq-of-singleton, Memᴰ·append-left, Memᴰ·append-right}
 use Prim.Native.Nat.{ℕ, zero, suc, _+_, _*_, _/_, _<_, _≤_}
-use native.Mathlib.Decide.{ℕ-discrete}
+use native.Mathlib.Decide.{ℕ-discrete, decLt}
 use native.Mathlib.Nat.{div-le-of-le-mul, le-div-iff-mul-le, mul-div-cancel-left, mul-le-mul-right, le-of-eq}
 use native.Mathlib.Omega.{arith}
 use lib.ListN.{length, length-append}
@@ -16,6 +16,25 @@ use Rattle.survey.specs.Inner.{addIf}
 use Rattle.survey.proofs.Orders.{sorted-append}
 
 -- ---- the numbers that pass a test
+
+-- they rise, and lie below n
+record Climbs (n : ℕ) (l : List ℕ) : Type 0 where
+  rises : Sorted _<_ l
+  below : (i : ℕ) → List·Memᴰ i l → i < n
+
+chosen-climbs : (p : ℕ → Bool) (n : ℕ) → Climbs n (chosen p n)
+unfolding chosen
+chosen-climbs p zero = record { rises = λ i j h k. absurd (omega arith); below = λ i m. absurd (List·Memᴰ·not-nil m) }
+chosen-climbs p (suc n) = go (p n) (chosen-climbs p n)
+  where
+    go : (b : Bool) → Climbs n (chosen p n) → Climbs (suc n) (cond b (chosen p n ++ n ∷ []) (chosen p n))
+    go true z = record {
+      rises =
+          sorted-append _<_ (chosen p n) (n ∷ []) (z .rises) (λ i j h k. absurd (omega arith))
+          (λ x y a b. omega (arith, z .below x a, List·Memᴰ·eq-of-singleton b));
+      below = λ i m. ⊎-elim (λ a. omega (arith, z .below i a)) (λ a. omega (arith, List·Memᴰ·eq-of-singleton a)) (List·Memᴰ·append-cases (chosen p n) m);
+    }
+    go false z = record { rises = z .rises; below = λ i m. omega (arith, z .below i m) }
 
 -- what is chosen is below n and passes,
 chosen-passes : (p : ℕ → Bool) (n i : ℕ) → List·Memᴰ i (chosen p n) → (i < n) × (p i ≡ true)
@@ -46,18 +65,6 @@ passes-chosen p (suc n) i h e = go (p n) refl (ℕ-discrete i n) (λ lt. passes-
     go false d (yes z) r = clash e (ap p z ∙ d)
     go false d (no z) r = r (omega arith)
 
--- they rise
-chosen-rises : (p : ℕ → Bool) (n : ℕ) → Sorted _<_ (chosen p n)
-unfolding chosen
-chosen-rises p zero = λ i j h k. absurd (omega arith)
-chosen-rises p (suc n) = go (p n) (chosen-rises p n)
-  where
-    go : (b : Bool) → Sorted _<_ (chosen p n) → Sorted _<_ (cond b (chosen p n ++ n ∷ []) (chosen p n))
-    go true up =
-        sorted-append _<_ (chosen p n) (n ∷ []) up (λ i j h k. absurd (omega arith))
-        (λ x y a b. omega (arith, chosen-passes p n x a, List·Memᴰ·eq-of-singleton b))
-    go false up = up
-
 -- the test passes the numbers that have a property
 pub chosen-lists : (P : ℕ → Type 0) (p : ℕ → Bool) (n : ℕ) → ((i : ℕ) → i < n → (p i ≡ true) ↔ P i) → Lists _<_ P n (chosen p n)
 chosen-lists P p n t = record {
@@ -65,8 +72,32 @@ chosen-lists P p n t = record {
     λ m. let x = chosen-passes p n i m in (x .0, t i (x .0) .0 (x .1)),
     λ x. passes-chosen p n i (x .0) (t i (x .0) .1 (x .1)),
   );
-  sorted = chosen-rises p n;
+  sorted = chosen-climbs p n .rises;
 }
+
+-- tests that agree below n choose the same
+pub chosen-same : (p q : ℕ → Bool) (n : ℕ) → ((i : ℕ) → i < n → p i ≡ q i) → chosen p n ≡ chosen q n
+unfolding chosen
+chosen-same p q zero e = refl
+chosen-same p q (suc n) e =
+    ap₂ (λ (b : Bool) (l : List ℕ). cond b (l ++ n ∷ []) l) (e n (omega arith)) (chosen-same p q n (λ i h. e i (omega arith)))
+
+-- below n + 1
+pub at-or-below : (j i : ℕ) → j < suc i → (j < i) ⊎ (j ≡ i)
+at-or-below j i h = go (decLt j i)
+  where
+    go : Dec (j < i) → (j < i) ⊎ (j ≡ i)
+    go (yes k) = inl k
+    go (no k) = inr (omega arith)
+
+pub chosen-le : (p : ℕ → Bool) (i n : ℕ) → i ≤ n → length (chosen p i) ≤ length (chosen p n)
+unfolding chosen
+chosen-le p i zero h = let e : i ≡ 0 = omega arith in le-of-eq (ap (λ (k : ℕ). length (chosen p k)) e)
+chosen-le p i (suc n) h = ⊎-elim (λ k. let r = chosen-le p i n (omega arith) in go (p n) r) (λ e. le-of-eq (ap (λ (k : ℕ). length (chosen p k)) e)) (at-or-below i (suc n) (omega arith))
+  where
+    go : (b : Bool) → length (chosen p i) ≤ length (chosen p n) → length (chosen p i) ≤ length (cond b (chosen p n ++ n ∷ []) (chosen p n))
+    go true r = simp length-append (omega arith)
+    go false r = r
 
 -- ---- counts
 

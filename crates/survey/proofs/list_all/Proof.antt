@@ -1,6 +1,6 @@
 use native.Mathlib.Omega.{arith}
-use Rattle.survey.specs.Inner.{maps}
-use Rattle.survey.proofs.Surveying.{runs-fit, runs-join}
+use Rattle.survey.specs.Inner.{setBelow}
+use Rattle.survey.proofs.Listing.{runs-fit, runs-join}
 use borrow.Author.Needs.{needs}
 use Rattle.survey.proofs.list_all.Statement.{statement}
 use Rattle.survey.proofs.list_all.Tie as tie
@@ -8,19 +8,19 @@ use Rattle.survey.proofs.list_all.Tie as tie
 list-map-requires : tie.Need-list-map-requires
 list-map-requires c κs =
     let a = c .before .before .before .before .before .args in
-    let r = runs-fit (a .n) (maps (a .lost .now) (a .clashing .now) (a .doubtful .now)) (c .before .before .before .before .before .pre .2) in
+    let r = runs-fit (setBelow (a .n) (a .lost .now)) (setBelow (a .n) (a .clashing .now)) (setBelow (a .n) (a .doubtful .now)) (c .before .before .before .before .before .pre .2) in
     (search needs, search needs, omega (arith, r .0, r .1, r .2))
 
 list-map-requires-2 : tie.Need-list-map-requires-2
 list-map-requires-2 c κs =
     let a = c .before .before .before .before .before .before .before .before .before .args in
-    let r = runs-fit (a .n) (maps (a .lost .now) (a .clashing .now) (a .doubtful .now)) (c .before .before .before .before .before .before .before .before .before .pre .2) in
+    let r = runs-fit (setBelow (a .n) (a .lost .now)) (setBelow (a .n) (a .clashing .now)) (setBelow (a .n) (a .doubtful .now)) (c .before .before .before .before .before .before .before .before .before .pre .2) in
     (search needs, search needs, omega (arith, c .before .before .before .list-map .ensures .0, r .1, r .2))
 
 list-map-requires-3 : tie.Need-list-map-requires-3
 list-map-requires-3 c κs =
     let a = c .before .before .before .before .before .before .before .before .before .before .before .before .before .args in
-    let r = runs-fit (a .n) (maps (a .lost .now) (a .clashing .now) (a .doubtful .now)) (c .before .before .before .before .before .before .before .before .before .before .before .before .before .pre .2) in
+    let r = runs-fit (setBelow (a .n) (a .lost .now)) (setBelow (a .n) (a .clashing .now)) (setBelow (a .n) (a .doubtful .now)) (c .before .before .before .before .before .before .before .before .before .before .before .before .before .pre .2) in
     (search needs, search needs, omega (arith, c .before .before .before .list-map2 .ensures .0, c .before .before .before .before .before .before .before .list-map .ensures .0, r .2))
 
 same-length : tie.Need-same-length
@@ -31,7 +31,7 @@ returns c =
     let a = c .before .before .before .before .before .before .before .before .before .before .before .before .before .before .before .before .args in
     let x = c .before .before .before .before .before .before .before .before .before .before .list-map .ensures in
     let y = c .before .before .before .before .before .before .list-map2 .ensures in
-    runs-join (a .n) (maps (a .lost .now) (a .clashing .now) (a .doubtful .now)) (a .list .now) (x .0) (x .1) (y .0) (y .1) (c .before .before .list-map3 .ensures .1)
+    runs-join (setBelow (a .n) (a .lost .now)) (setBelow (a .n) (a .clashing .now)) (setBelow (a .n) (a .doubtful .now)) (a .list .now) (x .0) (x .1) (y .0) (y .1) (c .before .before .list-map3 .ensures .1)
 
 pub list-all-spec : {M : Type 1} → statement M
 list-all-spec =

@@ -1,7 +1,7 @@
 use mathlib.Core.Logic.{⊎-elim}
 use Prim.Native.Nat.{_-_}
 use native.Mathlib.Omega.{arith}
-use Rattle.survey.proofs.Surveying.{Listing, listing-none, listing-room, listing-one, listing-same, listing-all}
+use Rattle.survey.proofs.Listing.{Listing, listing-none, listing-room, listing-one, listing-same, listing-all}
 use borrow.Author.Needs.{needs}
 use Rattle.survey.proofs.list_map.Statement.{statement}
 use Rattle.survey.proofs.list_map.Tie as tie

@@ -1,4 +1,4 @@
-use Rattle.survey.proofs.Surveying.{empty-maps, found-fits, found-listed}
+use Rattle.survey.proofs.Listing.{empty-maps, found-fits, found-listed}
 use borrow.Author.Needs.{needs}
 use Rattle.survey.proofs.survey_in.Statement.{statement}
 use Rattle.survey.proofs.survey_in.Tie as tie
