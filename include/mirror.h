@@ -286,7 +286,8 @@ MIRROR_ANSWER mirror_mend(const uint8_t *key, size_t key_len, size_t s, size_t n
  * kinds, and the list is one value for a key and a volume.
  *   1, 2, 8 as mirror_blank
  *   11 list_len is below n
- *   MIRROR_DONE: go by MIRROR_REFUSED_LOST and MIRROR_REFUSED_CLASHING above for the lost and the clashing sectors, and mend the doubtful
+ *   MIRROR_DONE: go by MIRROR_REFUSED_LOST and MIRROR_REFUSED_CLASHING above for the lost and the clashing sectors, and mend the doubtful.
+ *       If counts[MIRROR_COUNT_WHOLE] is 0 the key may be wrong: look for the right one before anything is blanked.
  */
 MIRROR_ANSWER mirror_survey(const uint8_t *key, size_t key_len, size_t s, size_t n, const uint8_t *local, size_t local_len,
                             const uint8_t *tags, size_t tags_len, const uint8_t *remote, size_t remote_len, uint32_t *list,
@@ -410,7 +411,7 @@ static inline MIRROR_ANSWER mirror_volume_mend(const struct mirror_volume *v, si
     return mirror_mend(v->key, v->key_len, v->s, v->n, number, v->local, v->local_len, v->tags, v->tags_len, v->remote, v->remote_len);
 }
 
-/* mirror_survey: the numbers of the sectors that are not whole go to list, which has n entries or more: lost, clashing, doubtful. */
+/* mirror_survey: the numbers of the lost, then the clashing, then the doubtful sectors go to list, which has n entries or more. */
 static inline MIRROR_ANSWER mirror_volume_survey(const struct mirror_volume *v, uint32_t *list, size_t list_len,
                                                  uint64_t counts[MIRROR_COUNTS_LENGTH])
 {

@@ -496,11 +496,12 @@ fn first_of(list: &[u32], count: usize) -> (&[u32], &[u32]) {
 /// Within a kind the numbers rise.
 #[derive(Clone, Copy, Debug, PartialEq, Eq, Hash)]
 pub struct ByKind<'l> {
-    /// The lost sectors: no plaintext fits two places. Blank them, and write them
-    /// from a backup.
+    /// The lost sectors: no plaintext fits two places. If no sector is whole, look
+    /// for the right key first: under a wrong one all are lost. Otherwise blank
+    /// them, and write them from a backup.
     pub lost: &'l [u32],
     /// The clashing ones: more than one plaintext fits two places. If a write was
-    /// under way, go on with it.
+    /// under way, go on with it; otherwise see [`Refusal::Clashing`].
     pub clashing: &'l [u32],
     /// The doubtful ones: [`mend`](Volume::mend) them.
     pub doubtful: &'l [u32],

@@ -11,9 +11,9 @@ use lib.ListN.{length, getD, set, replicate, length-set}
 use lib.Seq.{getD-set-same, getD-set-other, ext-getD, set-out}
 use borrow.Author.Tests.{eqb-true, eq-eqb}
 use Rattle.bits.specs.Bits.{digit, putDigit, num, Words, bit, mark, BitsFacts}
-use Rattle.bits.proofs.Digits.{digit-lt, digit-put-same, digit-put-other, put-lt, digits-only, digit-zero, get-mask}
+use Rattle.bits.proofs.Digits.{digit-lt, digit-put-same, digit-put-other, put-lt, digits-only, digit-zero, digit-shift}
 
-pub num-lt : (b : Bool) → num b < 2
+num-lt : (b : Bool) → num b < 2
 num-lt true = lit< tt
 num-lt false = lit< tt
 
@@ -88,7 +88,6 @@ bits-only m k h g e f = ext-getD 0 m k e (λ q l. digits-only 64 (getD m q 0) (g
   where
     same : (q j : ℕ) → j < 64 → digit j (getD m q 0) ≡ digit j (getD k q 0)
     same q j l =
-        let i : ℕ = q * 64 + j in
         let d : (q * 64 + j) / 64 ≡ q = omega arith in
         let r : (q * 64 + j) % 64 ≡ j = omega arith in
         let z : eqb (digit ((q * 64 + j) % 64) (getD m ((q * 64 + j) / 64) 0)) 1 ≡ eqb (digit ((q * 64 + j) % 64) (getD k ((q * 64 + j) / 64) 0)) 1 = f (q * 64 + j) in
@@ -107,9 +106,14 @@ pub word-set : (i : ℕ) (m : List ℕ) (b : Bool) {x : ℕ} → x ≡ putDigit 
 unfolding mark
 word-set i m b e = ap (set m (i / 64)) e
 
+by-division : (i : ℕ) (m : List ℕ) → bit i m ≡ eqb (getD m (i / 64) 0 / 2 ^ (i % 64) % 2) 1
+unfolding bit
+by-division i m = ap (λ (d : ℕ). eqb d 1) (digit-shift (i % 64) (getD m (i / 64) 0))
+
 pub bits-facts : BitsFacts
 bits-facts = record {
-  digit-by-division = get-mask;
+  by-division = by-division;
+  of-zeros = bit-zeros;
   marked = bit-mark-same;
   others-stay = bit-mark-other;
   length-stays = length-mark;

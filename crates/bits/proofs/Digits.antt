@@ -60,9 +60,9 @@ unfolding digit
 digit-zero zero = refl
 digit-zero (suc j) = digit-zero j
 
--- ---- masks: `w | 1 << k`, `w & !(1 << k)`, `w >> k & 1`
+-- ---- `w | 1 << k`, `w & !(1 << k)`, `(w >> k) % 2`
 
-pub set-mask : (k w : ℕ) → bitOr w (2 ^ k) ≡ putDigit k 1 w
+set-mask : (k w : ℕ) → bitOr w (2 ^ k) ≡ putDigit k 1 w
 unfolding putDigit
 set-mask zero w =
     let e : bitOr (w / 2) 0 ≡ w / 2 = or-zero-r (w / 2) in
@@ -74,7 +74,7 @@ set-mask (suc k) w =
     or-step w (2 ^ suc k) ∙ ap₂ (λ (x y : ℕ). bitOr (w / 2) x * 2 + max (w % 2) y) h z
     ∙ ap₂ (λ (x y : ℕ). x * 2 + y) (set-mask k (w / 2)) (max-zero (w % 2))
 
-pub clear-mask : (n k w : ℕ) → k < n → w < 2 ^ n → bitAnd w (2 ^ n - 1 - 2 ^ k) ≡ putDigit k 0 w
+clear-mask : (n k w : ℕ) → k < n → w < 2 ^ n → bitAnd w (2 ^ n - 1 - 2 ^ k) ≡ putDigit k 0 w
 unfolding putDigit
 clear-mask zero k w l h = absurd (omega arith)
 clear-mask (suc n) zero w l h =
@@ -96,15 +96,15 @@ clear-mask (suc n) (suc k) w l h =
     and-step w (2 ^ suc n - 1 - 2 ^ suc k) ∙ ap₂ (λ (x y : ℕ). bitAnd (w / 2) x * 2 + min (w % 2) y) e z
     ∙ ap₂ (λ (x y : ℕ). x * 2 + y) (clear-mask n k (w / 2) (omega arith) q) m
 
-pub get-mask : (k w : ℕ) → digit k w ≡ w / 2 ^ k % 2
+pub digit-shift : (k w : ℕ) → digit k w ≡ w / 2 ^ k % 2
 unfolding digit
-get-mask zero w = ap (λ (x : ℕ). x % 2) (sym (div-one w))
-get-mask (suc k) w =
-    get-mask k (w / 2)
+digit-shift zero w = ap (λ (x : ℕ). x % 2) (sym (div-one w))
+digit-shift (suc k) w =
+    digit-shift k (w / 2)
     ∙ ap (λ (x : ℕ). x % 2) (shr-shr w 1 k ∙ ap (λ (j : ℕ). w / 2 ^ j) (omega arith))
 
 -- `1 << k`
-pub one-shl : (k : ℕ) → k < 64 → (1 * 2 ^ k) % 2 ^ 64 ≡ 2 ^ k
+one-shl : (k : ℕ) → k < 64 → (1 * 2 ^ k) % 2 ^ 64 ≡ 2 ^ k
 one-shl k h = shl-exact {a = 1} 1 k 64 (lit< tt) (omega arith) ∙ omega arith
 
 -- `w | 1 << k`

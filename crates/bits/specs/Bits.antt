@@ -5,7 +5,7 @@ use mathlib.Core.Bool.{Bool, true, false}
 use mathlib.Core.List.{List, [], _∷_}
 use Prim.Native.Nat.{ℕ, zero, suc, _+_, _*_, _/_, _%_, _^_, _<_}
 use lib.Dec.{eqb}
-use lib.ListN.{length, getD, set}
+use lib.ListN.{length, getD, set, replicate}
 
 -- digit k of a word in base 2, lowest first
 unfoldable pub digit : ℕ → ℕ → ℕ
@@ -37,7 +37,9 @@ mark i b m = set m (i / 64) (putDigit (i % 64) (num b) (getD m (i / 64) 0))
 -- ---- what is proved
 
 pub record BitsFacts : Type 0 where
-  pub digit-by-division : (k w : ℕ) → digit k w ≡ w / 2 ^ k % 2
+  -- bit i is bit i mod 64, lowest first, of word i / 64
+  pub by-division : (i : ℕ) (m : List ℕ) → bit i m ≡ eqb (getD m (i / 64) 0 / 2 ^ (i % 64) % 2) 1
+  pub of-zeros : (n i : ℕ) → bit i (replicate n 0) ≡ false
   -- marking changes that bit and no other, and leaves as many words of 64 bits
   pub marked : (i : ℕ) (b : Bool) (m : List ℕ) → i / 64 < length m → bit i (mark i b m) ≡ b
   pub others-stay : (j i : ℕ) (b : Bool) (m : List ℕ) → (j ≡ i → ⊥) → bit j (mark i b m) ≡ bit j m

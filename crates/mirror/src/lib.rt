@@ -204,7 +204,7 @@ fn count_numbers(c: Counts) -> [u64; 5]
     ]
 }
 
-// `counts` is given whole, doubtful, clashing, lost and the health.
+// `counts` is given whole, doubtful, clashing, lost and the health; `list` is in repair order.
 #[no_mangle]
 pub extern "C" fn mirror_survey(
     key: &[u8],

@@ -10,10 +10,11 @@ use lib.Seq.{sets, sets-eq}
 use Rattle.bits.specs.Bits.{bit}
 use Rattle.bits.proofs.Bits.{bit-zeros}
 use Rattle.verdict.specs.Verdict.{Verdict}
+use Rattle.history.specs.Answers.{isWhole}
 use Rattle.survey.specs.declared.Counts.{Counts}
-use Rattle.survey.specs.Survey.{chosen, listed, counted, surveyed}
-use Rattle.survey.specs.Inner.{Maps, maps, Empty, setBelow, inOrder, Found}
-use Rattle.survey.proofs.Tallies.{length-listed, chosen-le}
+use Rattle.survey.specs.Survey.{chosen, tally, listed, counted, surveyed}
+use Rattle.survey.specs.Inner.{Maps, maps, Empty, setBelow, inOrder, AllJudged}
+use Rattle.survey.proofs.Tallies.{chosen-le, all-counted}
 
 -- ---- one map
 
@@ -101,18 +102,27 @@ module _ (a b c : List ℕ) where
 
 -- ---- the survey, of what was found
 
+-- those that are not whole are listed
+length-listed : (w : ℕ → Verdict) (n : ℕ) → length (listed w n) + tally isWhole w n ≡ n
+unfolding listed tally
+length-listed w n = simp length-append (omega (arith, all-counted w n))
+
 -- arrays of 1,024 words have a bit for each sector
 pub empty-maps : (n : ℕ) → n ≤ 65536 → let z : List ℕ = replicate 1024 0 in Empty n (maps z z z)
 empty-maps n h =
     let room : n ≤ 64 * length {A = ℕ} (replicate 1024 0) = omega (arith, length-replicate {A = ℕ} 1024 0) in
     record { sized = record { lost = room; clashing = room; doubtful = room }; lost = bit-zeros 1024; clashing = bit-zeros 1024; doubtful = bit-zeros 1024 }
 
-module _ {w : ℕ → Verdict} {n : ℕ} {c : Counts} {m : Maps} (f : Found w n c m) where
-  pub found-fits : (list : List ℕ) → n ≤ length list → length (inOrder n m) ≤ length list
-  found-fits list h = omega (arith, ap length (f .numbers), length-listed w n)
+module _ {w : ℕ → Verdict} {n : ℕ} {c : Counts} {m : Maps} (f : AllJudged w n c m) where
+  judged-order : inOrder n m ≡ listed w n
+  unfolding listed
+  judged-order = ap₂ (λ (l x : List ℕ). l ++ x) (ap₂ (λ (l x : List ℕ). l ++ x) (f .lost) (f .clashing)) (f .doubtful)
 
-  pub found-listed : (list : List ℕ) {new : List ℕ} → n ≤ length list → new ≡ sets list 0 (inOrder n m) → surveyed w n list ≡ (counted c, new)
-  found-listed list room e =
+  pub judged-fits : {room : ℕ} → n ≤ room → length (inOrder n m) ≤ room
+  judged-fits h = omega (arith, ap length judged-order, length-listed w n)
+
+  pub judged-listed : (list : List ℕ) {new : List ℕ} → n ≤ length list → new ≡ sets list 0 (inOrder n m) → surveyed w n list ≡ (counted c, new)
+  judged-listed list room e =
       let k : 0 + length (listed w n) ≡ length (listed w n) = omega arith in
       ap₂ (λ (x : Counts) (l : List ℕ). (counted x, l)) (sym (f .counts))
-      (sym (e ∙ ap (sets list 0) (f .numbers) ∙ sets-eq (listed w n) list 0 (omega (arith, length-listed w n)) ∙ ap (λ (j : ℕ). listed w n ++ drop j list) k))
+      (sym (e ∙ ap (sets list 0) judged-order ∙ sets-eq (listed w n) list 0 (omega (arith, length-listed w n)) ∙ ap (λ (j : ℕ). listed w n ++ drop j list) k))

@@ -9,8 +9,8 @@ use Rattle.survey.proofs.Orders.{sorted-head, sorted-tail, sorted-map}
 
 module _ (R : ℕ → ℕ → Type 0) (n : ℕ) (asym : (x y : ℕ) → x < n → y < n → R x y → R y x → ⊥) where
   -- so no number has the relation to itself
-  apart : (x y : ℕ) → x < n → R x y → x ≡ y → ⊥
-  apart x y lt r e = let z : R x x = subst (R x) (sym e) r in asym x x lt lt z z
+  unlike : (x y : ℕ) → x < n → R x y → x ≡ y → ⊥
+  unlike x y lt r e = let z : R x x = subst (R x) (sym e) r in asym x x lt lt z z
 
   abbrev Below : List ℕ → Type 0
   Below l = (i : ℕ) → List·Memᴰ i l → i < n
@@ -28,7 +28,7 @@ module _ (R : ℕ → ℕ → Type 0) (n : ℕ) (asym : (x y : ℕ) → x < n �
 
   tail-in : (x y z : ℕ) (l m : List ℕ) → x < n → Sorted R (x ∷ l) → x ≡ y → (List·Memᴰ z (x ∷ l) → List·Memᴰ z (y ∷ m)) → List·Memᴰ z l → List·Memᴰ z m
   tail-in x y z l m lt up h into r =
-      ⊎-elim (λ (p : z ≡ y). absurd (apart x z lt (sorted-head R x l up z r) (h ∙ sym p))) (λ q. q) (List·Memᴰ·cases-cons (into (List·Memᴰ·tail r)))
+      ⊎-elim (λ (p : z ≡ y). absurd (unlike x z lt (sorted-head R x l up z r) (h ∙ sym p))) (λ q. q) (List·Memᴰ·cases-cons (into (List·Memᴰ·tail r)))
 
   same-list : (l m : List ℕ) → Below l → Sorted R l → Sorted R m → Same l m → l ≡ m
   same-list [] [] lt up vp e = refl
@@ -50,7 +50,7 @@ module _ (R : ℕ → ℕ → Type 0) (n : ℕ) (asym : (x y : ℕ) → x < n �
 
     -- no two of its entries are equal
     pub entries-apart : (l : List ℕ) → Lists R P n l → Sorted (λ i j. i ≡ j → ⊥) l
-    entries-apart l a = sorted-map R (λ i j. i ≡ j → ⊥) l (λ x y m k. apart x y (a .exactly x .0 m .0)) (a .sorted)
+    entries-apart l a = sorted-map R (λ i j. i ≡ j → ⊥) l (λ x y m k. unlike x y (a .exactly x .0 m .0)) (a .sorted)
 
 pub lists-once : (P : ℕ → Type 0) (n : ℕ) (l m : List ℕ) → Lists _<_ P n l → Lists _<_ P n m → l ≡ m
 lists-once P n = one-list _<_ n (λ x y h k r s. omega arith) P

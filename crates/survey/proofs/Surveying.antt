@@ -1,11 +1,13 @@
 -- The survey, sector by sector: what each verdict adds to the counts and to the maps, the loop and the prepared key. Assumes nothing.
-use mathlib.Core.Path.{_≡_, refl, sym, ap, ap₂, subst, _∙_}
+use mathlib.Core.Path.{_≡_, refl, sym, ap, subst, _∙_}
 use mathlib.Core.Bool.{Bool, true, false, not}
-use mathlib.Core.Logic.{_⊎_, ⊎-elim}
-use mathlib.Core.List.{List, _++_}
+use mathlib.Core.Logic.{⊎-elim}
+use mathlib.Core.List.{List, [], _∷_}
 use Prim.Native.Nat.{ℕ, suc, _+_, _*_, _/_, _<_, _≤_}
 use native.Mathlib.Numerals.{add-one}
 use native.Mathlib.Omega.{arith}
+use denote.Enum.Declared.{tagOf}
+use types.Run.{OneOf, miss}
 use lib.Dec.{eqb}
 use lib.ListN.{length}
 use borrow.Author.Tests.{eq-eqb, ne-eqb}
@@ -23,6 +25,7 @@ use Rattle.answers.specs.declared.Judged.the-variants as J
 use Rattle.answers.specs.declared.Place as D
 use Rattle.answers.specs.declared.Refusal.{Refusal}
 use Rattle.answers.specs.declared.Refusal.the-variants.{Lost}
+use Rattle.answers.proofs.Refusal.{the-type}
 use Rattle.answers.specs.Answers.{refusalNumber, placeNamed, judgedNumber}
 use Rattle.verdict.specs.Judging.{verdictNumber, judgedBy}
 use Rattle.verdict.specs.Verdict.{Verdict, whole, doubtful, lost, clashing, fits, fitsTwo, candidate, grade, judge}
@@ -33,8 +36,8 @@ use Rattle.history.specs.Answers.{isWhole, isDoubtful, isClashing, isLost}
 use Rattle.history.specs.Volume.{mirror}
 use Rattle.images.specs.Lent.{placesOf}
 use Rattle.survey.specs.declared.Counts.{Counts}
-use Rattle.survey.specs.Survey.{chosen, numbers, tally, listed, health, countsOf, Report, verdictAt, surveyed}
-use Rattle.survey.specs.Inner.{verdictBy, Tells, addIf, counting, CountsOne, Maps, maps, markIf, marking, MarksOne, Sized, Empty, setBelow, Found}
+use Rattle.survey.specs.Survey.{chosen, numbers, tally, health, countsOf, Report, verdictAt, surveyed}
+use Rattle.survey.specs.Inner.{verdictBy, Tells, addIf, counting, CountsOne, Maps, maps, markIf, marking, MarksOne, Sized, Empty, setBelow, AllJudged}
 use Rattle.survey.proofs.Tallies.{at-or-below, chosen-same, tally-next, tally-le}
 
 -- ---- one sector: what the code's answer tells of the verdict
@@ -61,7 +64,7 @@ tells-doubtful {j} {p} z lost e = absurd (omega (arith, doubt-least (placeNamed 
 tells-doubtful {j} {p} z clashing e = absurd (omega (arith, doubt-least (placeNamed p), ap judgedNumber z))
 
 -- a refusal of judging: lost if it is 6, else clashing
-pub tells-refused : {j : Judged} {f : Refusal} → j ≡ J.Refused f → (w : Verdict) → Tells j w
+tells-refused : {j : Judged} {f : Refusal} → j ≡ J.Refused f → (w : Verdict) → Tells j w
     → Kind w false false (not (eqb (refusalNumber f) 6)) (eqb (refusalNumber f) 6)
 unfolding isWhole isDoubtful isClashing isLost
 tells-refused {j} {f} z (whole P) e = absurd (omega (arith, refusal-range f, ap judgedNumber z))
@@ -75,6 +78,13 @@ tells-refused {j} {f} z clashing e =
 
 pub tells-lost : {j : Judged} {f : Refusal} → j ≡ J.Refused f → f ≡ Lost → (w : Verdict) → Tells j w → Kind w false false false true
 tells-lost z d w e = tells-refused (z ∙ ap J.Refused d) w e
+
+-- the enum's tags but that of lost
+abbrev pub others : List ℕ
+others = 0 ∷ 1 ∷ 2 ∷ 3 ∷ 4 ∷ 6 ∷ 7 ∷ 8 ∷ 9 ∷ 10 ∷ 11 ∷ []
+
+pub not-lost : {f : Refusal} → OneOf others (tagOf the-type f) → f ≡ Lost → ⊥
+not-lost k d = miss others 5 tt (subst (λ (f : Refusal). OneOf others (tagOf the-type f)) d k)
 
 pub tells-clashing : {j : Judged} {f : Refusal} → j ≡ J.Refused f → (f ≡ Lost → ⊥) → (w : Verdict) → Tells j w → Kind w false false true false
 tells-clashing {j} {f} z d w e =
@@ -103,22 +113,22 @@ marks-one w z i m el ec ed = λ j. maps
 -- ---- the numbers in a map
 
 -- the map has those of the first i numbers whose verdict passes, and room for n
-pub record Keeps (is : Verdict → Bool) (w : ℕ → Verdict) (n i : ℕ) (m : List ℕ) : Type 0 where
+pub record BitsTell (is : Verdict → Bool) (w : ℕ → Verdict) (n i : ℕ) (m : List ℕ) : Type 0 where
   pub room : n ≤ 64 * length m
   pub below : (j : ℕ) → j < i → bit j m ≡ is (w j)
   pub beyond : (j : ℕ) → i ≤ j → bit j m ≡ false
 
 module _ (is : Verdict → Bool) (w : ℕ → Verdict) (n : ℕ) where
-  keeps-none : (m : List ℕ) → n ≤ 64 * length m → ((j : ℕ) → bit j m ≡ false) → Keeps is w n 0 m
-  keeps-none m room e = record { room = room; below = λ j h. absurd (omega arith); beyond = λ j h. e j }
+  bits-tell-none : (m : List ℕ) → n ≤ 64 * length m → ((j : ℕ) → bit j m ≡ false) → BitsTell is w n 0 m
+  bits-tell-none m room e = record { room = room; below = λ j h. absurd (omega arith); beyond = λ j h. e j }
 
-  keeps-next : (i : ℕ) (m : List ℕ) → Keeps is w n i m → i < n → Keeps is w n (suc i) (markIf (is (w i)) i m)
-  keeps-next i m z h = go (is (w i)) refl
+  bits-tell-next : (i : ℕ) (m : List ℕ) → BitsTell is w n i m → i < n → BitsTell is w n (suc i) (markIf (is (w i)) i m)
+  bits-tell-next i m z h = go (is (w i)) refl
     where
       fits : i / 64 < length m
       fits = let r = z .room in omega arith
 
-      go : (b : Bool) → is (w i) ≡ b → Keeps is w n (suc i) (markIf b i m)
+      go : (b : Bool) → is (w i) ≡ b → BitsTell is w n (suc i) (markIf b i m)
       go true e = record {
         room = let r = z .room in omega (arith, length-mark i true m);
         below = λ j k. ⊎-elim (λ l. bit-mark-other j i true m (λ d. omega arith) ∙ z .below j l) (λ d. ap (λ (x : ℕ). bit x (mark i true m)) d ∙ bit-mark-same i true m fits ∙ sym (ap (λ (x : ℕ). is (w x)) d ∙ e)) (at-or-below j i k);
@@ -130,15 +140,15 @@ module _ (is : Verdict → Bool) (w : ℕ → Verdict) (n : ℕ) where
         beyond = λ j k. z .beyond j (omega arith);
       }
 
-  keeps-all : (m : List ℕ) → Keeps is w n n m → setBelow n m ≡ numbers is w n
-  keeps-all m z = chosen-same (λ i. bit i m) (λ i. is (w i)) n (z .below)
+  bits-tell-all : (m : List ℕ) → BitsTell is w n n m → setBelow n m ≡ numbers is w n
+  bits-tell-all m z = chosen-same (λ i. bit i m) (λ i. is (w i)) n (z .below)
 
 -- ---- judging them all
 
-pub record Kept (w : ℕ → Verdict) (n i : ℕ) (m : Maps) : Type 0 where
-  pub lost : Keeps isLost w n i (m .lost)
-  pub clashing : Keeps isClashing w n i (m .clashing)
-  pub doubtful : Keeps isDoubtful w n i (m .doubtful)
+pub record MapsTell (w : ℕ → Verdict) (n i : ℕ) (m : Maps) : Type 0 where
+  pub lost : BitsTell isLost w n i (m .lost)
+  pub clashing : BitsTell isClashing w n i (m .clashing)
+  pub doubtful : BitsTell isDoubtful w n i (m .doubtful)
 
 -- After the first i of n sectors. The counts are no more than i.
 pub record Loop (w : ℕ → Verdict) (n i : ℕ) (c : Counts) (m : Maps) : Type 0 where
@@ -149,7 +159,7 @@ pub record Loop (w : ℕ → Verdict) (n i : ℕ) (c : Counts) (m : Maps) : Type
   pub doubtful-most : c .doubtful ≤ i
   pub clashing-most : c .clashing ≤ i
   pub lost-most : c .lost ≤ i
-  pub kept : Kept w n i m
+  pub told : MapsTell w n i m
   pub sized : Sized n m
 
 pub record SameSizes (old new : Maps) : Type 0 where
@@ -157,12 +167,12 @@ pub record SameSizes (old new : Maps) : Type 0 where
   pub clashing : length (new .clashing) ≡ length (old .clashing)
   pub doubtful : length (new .doubtful) ≡ length (old .doubtful)
 
-kept-sized : {w : ℕ → Verdict} {n i : ℕ} {m : Maps} → Kept w n i m → Sized n m
-kept-sized z = record { lost = z .lost .room; clashing = z .clashing .room; doubtful = z .doubtful .room }
+maps-sized : {w : ℕ → Verdict} {n i : ℕ} {m : Maps} → MapsTell w n i m → Sized n m
+maps-sized z = record { lost = z .lost .room; clashing = z .clashing .room; doubtful = z .doubtful .room }
 
 module _ (w : ℕ → Verdict) (n : ℕ) where
   -- by what the counts are
-  loop-at : (i : ℕ) (c : Counts) (m : Maps) → i ≤ n → n ≤ 65536 → c ≡ countsOf w i 0 → Kept w n i m → Loop w n i c m
+  loop-at : (i : ℕ) (c : Counts) (m : Maps) → i ≤ n → n ≤ 65536 → c ≡ countsOf w i 0 → MapsTell w n i m → Loop w n i c m
   loop-at i c m h k e z = record {
     reached = h;
     count = k;
@@ -171,16 +181,16 @@ module _ (w : ℕ → Verdict) (n : ℕ) where
     doubtful-most = subst (λ (x : Counts). x .doubtful ≤ i) (sym e) (tally-le isDoubtful w i);
     clashing-most = subst (λ (x : Counts). x .clashing ≤ i) (sym e) (tally-le isClashing w i);
     lost-most = subst (λ (x : Counts). x .lost ≤ i) (sym e) (tally-le isLost w i);
-    kept = z;
-    sized = kept-sized z;
+    told = z;
+    sized = maps-sized z;
   }
 
   pub loop-none : (m : Maps) → n ≤ 65536 → Empty n m → Loop w n 0 (record { whole = 0; doubtful = 0; clashing = 0; lost = 0; health = 0 }) m
   unfolding tally chosen
   loop-none m h e = loop-at 0 _ m (omega arith) h refl (record {
-    lost = keeps-none isLost w n (m .lost) (e .sized .lost) (e .lost);
-    clashing = keeps-none isClashing w n (m .clashing) (e .sized .clashing) (e .clashing);
-    doubtful = keeps-none isDoubtful w n (m .doubtful) (e .sized .doubtful) (e .doubtful);
+    lost = bits-tell-none isLost w n (m .lost) (e .sized .lost) (e .lost);
+    clashing = bits-tell-none isClashing w n (m .clashing) (e .sized .clashing) (e .clashing);
+    doubtful = bits-tell-none isDoubtful w n (m .doubtful) (e .sized .doubtful) (e .doubtful);
   })
 
   counts-next : (i : ℕ) {c d : Counts} → c ≡ countsOf w i 0 → d ≡ counting (w i) c → d ≡ countsOf w (suc i) 0
@@ -192,11 +202,11 @@ module _ (w : ℕ → Verdict) (n : ℕ) where
     health = 0;
   })
 
-  kept-next : {i : ℕ} {m : Maps} → Kept w n i m → i < n → Kept w n (suc i) (marking (w i) i m)
-  kept-next {i} {m} z h = record {
-    lost = keeps-next isLost w n i (m .lost) (z .lost) h;
-    clashing = keeps-next isClashing w n i (m .clashing) (z .clashing) h;
-    doubtful = keeps-next isDoubtful w n i (m .doubtful) (z .doubtful) h;
+  maps-next : {i : ℕ} {m : Maps} → MapsTell w n i m → i < n → MapsTell w n (suc i) (marking (w i) i m)
+  maps-next {i} {m} z h = record {
+    lost = bits-tell-next isLost w n i (m .lost) (z .lost) h;
+    clashing = bits-tell-next isClashing w n i (m .clashing) (z .clashing) h;
+    doubtful = bits-tell-next isDoubtful w n i (m .doubtful) (z .doubtful) h;
   }
 
   -- a turn, by what its three calls ensure
@@ -205,26 +215,24 @@ module _ (w : ℕ → Verdict) (n : ℕ) where
   loop-next {i} {c} {d} {m} {new} v lt e f g =
       subst (λ (k : ℕ). Loop w n k d new) (sym (add-one i))
       (loop-at (suc i) d new (omega arith) (v .count) (counts-next i (v .counts) (f (w i) e))
-      (subst (Kept w n (suc i)) (sym (g (w i) e)) (kept-next (v .kept) lt)))
+      (subst (MapsTell w n (suc i)) (sym (g (w i) e)) (maps-next (v .told) lt)))
 
   -- all of them, and their health
   pub loop-all : {i h : ℕ} {c : Counts} {m : Maps} → Loop w n i c m → n ≤ i → h ≡ health (c .whole) n
-      → Found w n (record { whole = c .whole; doubtful = c .doubtful; clashing = c .clashing; lost = c .lost; health = h }) m
-  unfolding listed
+      → AllJudged w n (record { whole = c .whole; doubtful = c .doubtful; clashing = c .clashing; lost = c .lost; health = h }) m
   loop-all {i} {h} {c} {m} v ge d =
       let le : i ≤ n = v .reached in
       let e : i ≡ n = omega arith in
-      let z : Kept w n n m = subst (λ (k : ℕ). Kept w n k m) e (v .kept) in
+      let z : MapsTell w n n m = subst (λ (k : ℕ). MapsTell w n k m) e (v .told) in
       record {
         counts =
             ap (λ (k : ℕ). record { whole = c .whole; doubtful = c .doubtful; clashing = c .clashing; lost = c .lost; health = k }) d
             ∙ ap (λ (x : Counts). record { whole = x .whole; doubtful = x .doubtful; clashing = x .clashing; lost = x .lost; health = health (x .whole) n })
             (v .counts ∙ ap (λ (k : ℕ). countsOf w k 0) e);
         sized = v .sized;
-        numbers =
-            ap₂ (λ (l x : List ℕ). l ++ x)
-            (ap₂ (λ (l x : List ℕ). l ++ x) (keeps-all isLost w n (m .lost) (z .lost)) (keeps-all isClashing w n (m .clashing) (z .clashing)))
-            (keeps-all isDoubtful w n (m .doubtful) (z .doubtful));
+        lost = bits-tell-all isLost w n (m .lost) (z .lost);
+        clashing = bits-tell-all isClashing w n (m .clashing) (z .clashing);
+        doubtful = bits-tell-all isDoubtful w n (m .doubtful) (z .doubtful);
       }
 
 -- ---- the prepared key

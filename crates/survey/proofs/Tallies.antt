@@ -11,7 +11,7 @@ use lib.ListN.{length, length-append}
 use Rattle.block.proofs.Lists.{false-true, clash}
 use Rattle.verdict.specs.Verdict.{Verdict, whole, doubtful, lost, clashing}
 use Rattle.history.specs.Answers.{isWhole, isDoubtful, isClashing, isLost}
-use Rattle.survey.specs.Survey.{chosen, tally, listed, health, Sorted, Lists}
+use Rattle.survey.specs.Survey.{chosen, tally, health, Sorted, Lists}
 use Rattle.survey.specs.Inner.{addIf}
 use Rattle.survey.proofs.Orders.{sorted-append}
 
@@ -101,7 +101,7 @@ chosen-le p i (suc n) h = ⊎-elim (λ k. let r = chosen-le p i n (omega arith) 
 
 -- ---- counts
 
-pub tally-none : {A : Type 0} (is : A → Bool) (w : ℕ → A) → tally is w 0 ≡ 0
+tally-none : {A : Type 0} (is : A → Bool) (w : ℕ → A) → tally is w 0 ≡ 0
 unfolding tally chosen
 tally-none is w = refl
 
@@ -134,11 +134,6 @@ all-counted w zero = omega (arith, tally-none isWhole w, tally-none isDoubtful w
 all-counted w (suc n) =
     rw (tally-next isWhole w n, tally-next isDoubtful w n, tally-next isClashing w n, tally-next isLost w n)
     (one-kind (w n) (tally isWhole w n) (tally isDoubtful w n) (tally isClashing w n) (tally isLost w n) ∙ ap suc (all-counted w n))
-
--- those that are not whole are listed
-pub length-listed : (w : ℕ → Verdict) (n : ℕ) → length (listed w n) + tally isWhole w n ≡ n
-unfolding listed tally
-length-listed w n = simp length-append (omega (arith, all-counted w n))
 
 -- where every number passes, and only there, the count is n
 tally-all : {A : Type 0} (is : A → Bool) (w : ℕ → A) (n : ℕ) → ((i : ℕ) → i < n → is (w i) ≡ true) → tally is w n ≡ n

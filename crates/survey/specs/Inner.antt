@@ -14,7 +14,7 @@ use Rattle.verdict.specs.Verdict.{Verdict, judge}
 use Rattle.history.specs.Answers.{isWhole, isDoubtful, isClashing, isLost}
 use Rattle.images.specs.Lent.{placesOf}
 use Rattle.survey.specs.declared.Counts.{Counts}
-use Rattle.survey.specs.Survey.{chosen, tally, health, countsOf, listed}
+use Rattle.survey.specs.Survey.{chosen, numbers, tally, health, countsOf}
 
 -- the verdicts by the mode, with the tweak of each number
 abbrev pub verdictBy : Scheme → ℕ → List ℕ → List ℕ → List ℕ → ℕ → Verdict
@@ -87,7 +87,9 @@ abbrev pub inOrder : ℕ → Maps → List ℕ
 inOrder n m = setBelow n (m .lost) ++ setBelow n (m .clashing) ++ setBelow n (m .doubtful)
 
 -- the counts and the maps of n sectors with these verdicts
-pub record Found (w : ℕ → Verdict) (n : ℕ) (c : Counts) (m : Maps) : Type 0 where
+pub record AllJudged (w : ℕ → Verdict) (n : ℕ) (c : Counts) (m : Maps) : Type 0 where
   pub counts : c ≡ countsOf w n (health (tally isWhole w n) n)
   pub sized : Sized n m
-  pub numbers : inOrder n m ≡ listed w n
+  pub lost : setBelow n (m .lost) ≡ numbers isLost w n
+  pub clashing : setBelow n (m .clashing) ≡ numbers isClashing w n
+  pub doubtful : setBelow n (m .doubtful) ≡ numbers isDoubtful w n

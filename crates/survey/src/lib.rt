@@ -15,7 +15,7 @@ ghost use Rattle.mode.specs.Sealing.{keyFrom, triple};
 ghost use Rattle.history.specs.Volume.{mirror};
 ghost use Rattle.images.specs.Lent.{Room, Within, Scratch};
 ghost use Rattle.survey.specs.Survey.{verdictAt, health, counted, surveyed, reportOf, surveyOutcome};
-ghost use Rattle.survey.specs.Inner.{verdictBy, Tells, CountsOne, MarksOne, maps, Empty, Sized, Found, setBelow, inOrder};
+ghost use Rattle.survey.specs.Inner.{verdictBy, Tells, CountsOne, MarksOne, maps, Empty, Sized, AllJudged, setBelow, inOrder};
 
 // How many sectors have each verdict, and the whole ones in thousandths.
 pub struct Counts {
@@ -95,7 +95,7 @@ fn count_verdict(c: Counts, judged: Judged) -> Counts
     }
 }
 
-// Keeps the number i as a bit of its sector's kind. A whole sector has none.
+// BitsTell the number i as a bit of its sector's kind. A whole sector has none.
 fn mark_kind(lost: &mut [u64], clashing: &mut [u64], doubtful: &mut [u64], i: usize, judged: Judged)
     requires { ⌜ (i / 64 < length (now lost)) × (i / 64 < length (now clashing)) × (i / 64 < length (now doubtful)) ⌝ }
     ensures { λ _. ⌜ MarksOne judged i (maps (now (lost .entry)) (now (clashing .entry)) (now (doubtful .entry))) (maps (now (lost .exit)) (now (clashing .exit)) (now (doubtful .exit))) ⌝ }
@@ -137,7 +137,7 @@ fn judge_all<'k>(
     scratch: &mut [u8],
 ) -> Counts
     requires { ⌜ KeyReady (now t) (now w) (now powers) (masks .alpha) (masks .beta) × Room s n (length (now local)) (length (now tags)) (length (now remote)) × Empty n (maps (now lost) (now clashing) (now doubtful)) × Scratch s (now plain) (now sum) (now scratch) ⌝ }
-    ensures { λ r. ⌜ Found (verdictBy (schemeOf (now (w .entry)) (now (powers .entry))) s (now (local .entry)) (now (tags .entry)) (now (remote .entry))) n r (maps (now (lost .exit)) (now (clashing .exit)) (now (doubtful .exit))) ⌝ }
+    ensures { λ r. ⌜ AllJudged (verdictBy (schemeOf (now (w .entry)) (now (powers .entry))) s (now (local .entry)) (now (tags .entry)) (now (remote .entry))) n r (maps (now (lost .exit)) (now (clashing .exit)) (now (doubtful .exit))) ⌝ }
 {
     let mut counts = Counts {
         whole: 0,
@@ -171,8 +171,8 @@ fn judge_all<'k>(
     counts
 }
 
-// Lists the numbers below n that are set in the map, from an entry on, and gives the entry behind.
-fn list_map(map: &[u64], n: usize, list: &mut [u32], at: usize) -> usize
+// Lists the numbers below n that are set in the map of a kind, from an entry on, and gives the entry behind.
+fn list_kind(map: &[u64], n: usize, list: &mut [u32], at: usize) -> usize
     requires { ⌜ (n ≤ 65536) × (n ≤ 64 * length (now map)) × (at + length (setBelow n (now map)) ≤ length (now list)) ⌝ }
     ensures { λ r. ⌜ (r ≡ at + length (setBelow n (now (map .entry)))) × (now (list .exit) ≡ sets (now (list .entry)) at (setBelow n (now (map .entry)))) ⌝ }
 {
@@ -193,9 +193,9 @@ fn list_all(lost: &[u64], clashing: &[u64], doubtful: &[u64], n: usize, list: &m
     requires { ⌜ (n ≤ 65536) × Sized n (maps (now lost) (now clashing) (now doubtful)) × (length (inOrder n (maps (now lost) (now clashing) (now doubtful))) ≤ length (now list)) ⌝ }
     ensures { λ _. ⌜ now (list .exit) ≡ sets (now (list .entry)) 0 (inOrder n (maps (now (lost .entry)) (now (clashing .entry)) (now (doubtful .entry)))) ⌝ }
 {
-    let first = list_map(lost, n, list, 0);
-    let second = list_map(clashing, n, list, first);
-    list_map(doubtful, n, list, second);
+    let first = list_kind(lost, n, list, 0);
+    let second = list_kind(clashing, n, list, first);
+    list_kind(doubtful, n, list, second);
 }
 
 // The survey with a prepared key. Up to 65,536 sectors have a bit each in three maps.
@@ -305,7 +305,8 @@ fn survey_checked(
     )
 }
 
-// Counts the sectors by their verdict, and lists the numbers of those that are not whole.
+// Counts the sectors by their verdict, and lists those that are not whole in repair order: the lost, the clashing, the doubtful, within a
+// kind rising.
 pub fn survey(
     key: &[u8],
     s: usize,

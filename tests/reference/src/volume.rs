@@ -180,7 +180,8 @@ pub fn survey(
             Ok(Verdict::Whole) => {}
             Ok(Verdict::Doubtful(_)) => doubtful.push(number as u32),
             Err(Refusal::Clashing) => clashing.push(number as u32),
-            Err(_) => lost.push(number as u32),
+            Err(Refusal::Lost) => lost.push(number as u32),
+            Err(refusal) => unreachable!("judging refuses {refusal:?}"),
         }
     }
     let listed = [lost, clashing, doubtful].concat();

@@ -1,12 +1,6 @@
-use mathlib.Core.Path.{refl, subst}
-use mathlib.Core.List.{List, [], _∷_}
-use Prim.Native.Nat.{ℕ}
-use denote.Enum.Declared.{tagOf}
-use types.Run.{OneOf, miss}
-use Rattle.answers.specs.declared.Refusal.{Refusal}
-use Rattle.answers.proofs.Refusal.{the-type}
+use mathlib.Core.Path.{refl}
 use native.Mathlib.Numerals.{add-one}
-use Rattle.survey.proofs.Surveying.{tells-whole, tells-doubtful, tells-lost, tells-clashing, counts-one}
+use Rattle.survey.proofs.Surveying.{tells-whole, tells-doubtful, tells-lost, not-lost, tells-clashing, counts-one}
 use borrow.Author.Needs.{needs}
 use Rattle.survey.proofs.count_verdict.Statement.{statement}
 use Rattle.survey.proofs.count_verdict.Tie as tie
@@ -44,13 +38,8 @@ returns-2 c = λ w e. counts-one w (tells-doubtful (c .before .enum-told2 .given
 returns-3 : tie.Need-returns-3
 returns-3 c = λ w e. counts-one w (tells-lost (c .before .before .before .before .judged .given .1) (c .before .enum-told3 .given .1) w e) _ refl refl refl (add-one _)
 
--- the enum's tags but that of lost
-others : List ℕ
-others = 0 ∷ 1 ∷ 2 ∷ 3 ∷ 4 ∷ 6 ∷ 7 ∷ 8 ∷ 9 ∷ 10 ∷ 11 ∷ []
-
 returns-4 : tie.Need-returns-4
-unfolding others
-returns-4 c = λ w e. counts-one w (tells-clashing (c .before .before .before .judged .given .1) (λ d. miss others 5 tt (subst (λ (f : Refusal). OneOf others (tagOf the-type f)) d (c .before .match2 .keys2))) w e) _ refl refl (add-one _) refl
+returns-4 c = λ w e. counts-one w (tells-clashing (c .before .before .before .judged .given .1) (not-lost (c .before .match2 .keys2)) w e) _ refl refl (add-one _) refl
 
 pub count-verdict-spec : {M : Type 1} → statement M
 count-verdict-spec =

@@ -1,11 +1,5 @@
-use mathlib.Core.Path.{refl, subst}
-use mathlib.Core.List.{List, [], _∷_}
-use Prim.Native.Nat.{ℕ}
-use denote.Enum.Declared.{tagOf}
-use types.Run.{OneOf, miss}
-use Rattle.answers.specs.declared.Refusal.{Refusal}
-use Rattle.answers.proofs.Refusal.{the-type}
-use Rattle.survey.proofs.Surveying.{tells-whole, tells-doubtful, tells-lost, tells-clashing, marks-one}
+use mathlib.Core.Path.{refl}
+use Rattle.survey.proofs.Surveying.{tells-whole, tells-doubtful, tells-lost, not-lost, tells-clashing, marks-one}
 use borrow.Author.Needs.{needs}
 use Rattle.survey.proofs.mark_kind.Statement.{statement}
 use Rattle.survey.proofs.mark_kind.Tie as tie
@@ -49,13 +43,8 @@ returns-3 c = λ w e. marks-one w (tells-lost (c .before .before .before .before
 same-length-3 : tie.Need-same-length-3
 same-length-3 c = search needs
 
--- the enum's tags but that of lost
-others : List ℕ
-others = 0 ∷ 1 ∷ 2 ∷ 3 ∷ 4 ∷ 6 ∷ 7 ∷ 8 ∷ 9 ∷ 10 ∷ 11 ∷ []
-
 returns-4 : tie.Need-returns-4
-unfolding others
-returns-4 c = λ w e. marks-one w (tells-clashing (c .before .before .before .before .before .before .judged .given .1) (λ d. miss others 5 tt (subst (λ (f : Refusal). OneOf others (tagOf the-type f)) d (c .before .before .before .before .match2 .keys2))) w e) _ _ refl (c .before .before .set-bit3 .ensures) refl
+returns-4 c = λ w e. marks-one w (tells-clashing (c .before .before .before .before .before .before .judged .given .1) (not-lost (c .before .before .before .before .match2 .keys2)) w e) _ _ refl (c .before .before .set-bit3 .ensures) refl
 
 pub mark-kind-spec : {M : Type 1} → statement M
 mark-kind-spec =

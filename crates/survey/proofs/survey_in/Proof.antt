@@ -1,4 +1,4 @@
-use Rattle.survey.proofs.Listing.{empty-maps, found-fits, found-listed}
+use Rattle.survey.proofs.Listing.{empty-maps, judged-fits, judged-listed}
 use borrow.Author.Needs.{needs}
 use Rattle.survey.proofs.survey_in.Statement.{statement}
 use Rattle.survey.proofs.survey_in.Tie as tie
@@ -28,7 +28,7 @@ list-all-requires : tie.Need-list-all-requires
 list-all-requires c κs =
     let p = c .before .before .before .before .before .before .before .before .before .before .before .before .before .before .before .before .before .before .before .before .before .before .before .before .before .before .before .before .pre in
     let f = c .before .before .before .before .before .before .before .before .before .before .before .before .before .judge-all .ensures in
-    (p .1 .count, f .sized, found-fits f (c .before .before .before .before .before .before .before .before .before .before .before .before .before .before .before .before .before .before .before .before .before .before .before .before .before .before .before .before .args .list .now) (p .2))
+    (p .1 .count, f .sized, judged-fits f (p .2))
 
 same-length : tie.Need-same-length
 same-length c = search needs
@@ -43,7 +43,9 @@ same-length-4 : tie.Need-same-length-4
 same-length-4 c = search needs
 
 returns : tie.Need-returns
-returns c = found-listed (c .before .before .before .before .before .before .before .before .before .before .before .before .before .before .before .before .judge-all .ensures) (c .before .before .before .before .before .before .before .before .before .before .before .before .before .before .before .before .before .before .before .before .before .before .before .before .before .before .before .before .before .before .before .args .list .now) (c .before .before .before .before .before .before .before .before .before .before .before .before .before .before .before .before .before .before .before .before .before .before .before .before .before .before .before .before .before .before .before .pre .2) (c .before .before .list-all .ensures)
+returns c =
+    let p = c .before .before .before .before .before .before .before .before .before .before .before .before .before .before .before .before .before .before .before .before .before .before .before .before .before .before .before .before .before .before .before .pre in
+    judged-listed (c .before .before .before .before .before .before .before .before .before .before .before .before .before .before .before .before .judge-all .ensures) _ (p .2) (c .before .before .list-all .ensures)
 
 pub survey-in-spec : {M : Type 1} → statement M
 survey-in-spec =

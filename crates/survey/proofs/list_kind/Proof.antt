@@ -3,8 +3,8 @@ use Prim.Native.Nat.{_-_}
 use native.Mathlib.Omega.{arith}
 use Rattle.survey.proofs.Listing.{Listing, listing-none, listing-room, listing-one, listing-same, listing-all}
 use borrow.Author.Needs.{needs}
-use Rattle.survey.proofs.list_map.Statement.{statement}
-use Rattle.survey.proofs.list_map.Tie as tie
+use Rattle.survey.proofs.list_kind.Statement.{statement}
+use Rattle.survey.proofs.list_kind.Tie as tie
 
 abbrev Inv-loop : tie.InvT-loop
 Inv-loop map n list₀ at next₀ i₀ list next i = Listing map n list₀ at i next list
@@ -48,8 +48,8 @@ same-length c = search needs
 returns : tie.Need-returns Inv-loop μ-loop
 returns c = listing-all _ _ _ _ (c .before .loop .inv) (omega arith)
 
-pub list-map-spec : {M : Type 1} → statement M
-list-map-spec =
+pub list-kind-spec : {M : Type 1} → statement M
+list-kind-spec =
     tie.close
     (tie.spec
     Inv-loop
