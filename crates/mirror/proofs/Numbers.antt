@@ -4,10 +4,10 @@ use mathlib.Core.List.{List}
 use Prim.Native.Nat.{ℕ}
 use Rattle.answers.specs.declared.Refusal.{Refusal}
 use Rattle.answers.specs.Answers.{refusalNumber}
-use Rattle.survey.specs.declared.Counts.{Counts}
-use Rattle.survey.specs.declared.Surveyed.{Surveyed}
-use Rattle.survey.specs.declared.Surveyed.the-variants.{Counted, Refused}
-use Rattle.survey.specs.Survey.{Report, reportOf}
+use Rattle.report.specs.declared.Counts.{Counts}
+use Rattle.report.specs.declared.Surveyed.{Surveyed}
+use Rattle.report.specs.declared.Surveyed.the-variants.{Counted, Refused}
+use Rattle.report.specs.Survey.{Report, reportOf}
 use Rattle.mirror.specs.Survey.{numbers, surveyResult}
 
 pub renumber : {A : Type 0} {x : ℕ × A} {n m : ℕ} {o : A} → x ≡ (m, o) → n ≡ m → x ≡ (n, o)

@@ -14,9 +14,9 @@ use Rattle.verdict.specs.Verdict.{Verdict}
 use Rattle.history.specs.Answers.{isWhole}
 use Rattle.history.specs.HistoryFrom.{AnyBytes}
 use Rattle.history.specs.Volume.{mirror}
-use Rattle.survey.specs.declared.Counts.{Counts}
-use Rattle.survey.specs.Survey.{tally, health, countsOf, written, Report, refused, verdictAt, surveyed, surveyRefusal, surveyOutcome, ByFitting}
-use Rattle.survey.proofs.SurveyFacts.{survey-facts}
+use Rattle.report.specs.declared.Counts.{Counts}
+use Rattle.report.specs.Survey.{tally, health, countsOf, written, Report, refused, verdictAt, surveyed, surveyRefusal, surveyOutcome, ByFitting}
+use Rattle.report.proofs.SurveyFacts.{survey-facts}
 use Rattle.mirror.specs.Survey.{surveyResult, SurveyNumbers}
 
 -- no refusal of a survey has the number 0

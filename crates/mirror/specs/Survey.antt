@@ -7,8 +7,8 @@ use Prim.Native.Nat.{ℕ}
 use lib.ListN.{length}
 use Rattle.mode.specs.Sealing.{Triple, Key}
 use Rattle.history.specs.HistoryFrom.{AnyBytes}
-use Rattle.survey.specs.declared.Counts.{Counts}
-use Rattle.survey.specs.Survey.{Report, refused, counted, surveyRefusal, surveyOutcome, ByFitting}
+use Rattle.report.specs.declared.Counts.{Counts}
+use Rattle.report.specs.Survey.{Report, refused, counted, surveyRefusal, surveyOutcome, ByFitting}
 
 abbrev pub numbers : Counts → List ℕ
 numbers c = c .whole ∷ c .doubtful ∷ c .clashing ∷ c .lost ∷ c .health ∷ []

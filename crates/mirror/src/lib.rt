@@ -2,8 +2,8 @@
 // 81, 82 or 83 (hexadecimal) for doubt at local, tag or remote, or the refusal.
 use answers::Done;
 use answers::Judged;
-use survey::Counts;
-use survey::Surveyed;
+use report::Counts;
+use report::Surveyed;
 ghost use mathlib.Core.Path.{_≡_};
 ghost use Rattle.mode.specs.Sealing.{keyFrom, triple};
 ghost use Rattle.answers.specs.Answers.{doneNumber, judgedNumber};
@@ -11,7 +11,7 @@ ghost use Rattle.answers.specs.Rules.{args};
 ghost use Rattle.sector.specs.Calls.{sealCall, judgeCall, openCall, rebuildCall, combineCall};
 ghost use Rattle.history.specs.Volume.{mirror, outcome, readOutcome};
 ghost use Rattle.history.specs.Volume as W;
-ghost use Rattle.survey.specs.Survey.{surveyOutcome};
+ghost use Rattle.report.specs.Survey.{surveyOutcome};
 ghost use Rattle.mirror.specs.Survey.{numbers, surveyResult};
 ghost use Rattle.mirror.specs.Version.{release};
 

@@ -11,10 +11,10 @@ use Rattle.bits.specs.Bits.{bit}
 use Rattle.bits.proofs.Bits.{bit-zeros}
 use Rattle.verdict.specs.Verdict.{Verdict}
 use Rattle.history.specs.Answers.{isWhole}
-use Rattle.survey.specs.declared.Counts.{Counts}
-use Rattle.survey.specs.Survey.{chosen, tally, listed, counted, surveyed}
+use Rattle.report.specs.declared.Counts.{Counts}
+use Rattle.report.specs.Survey.{chosen, tally, listed, counted, surveyed}
 use Rattle.survey.specs.Inner.{Maps, maps, Empty, setBelow, inOrder, AllJudged}
-use Rattle.survey.proofs.Tallies.{chosen-le, all-counted}
+use Rattle.report.proofs.Tallies.{chosen-le, all-counted}
 
 -- ---- one map
 

@@ -35,10 +35,11 @@ use Rattle.verdict.proofs.Numbers.{outcome-number}
 use Rattle.history.specs.Answers.{isWhole, isDoubtful, isClashing, isLost}
 use Rattle.history.specs.Volume.{mirror}
 use Rattle.images.specs.Lent.{placesOf}
-use Rattle.survey.specs.declared.Counts.{Counts}
-use Rattle.survey.specs.Survey.{chosen, numbers, tally, health, countsOf, Report, verdictAt, surveyed}
-use Rattle.survey.specs.Inner.{verdictBy, Tells, addIf, counting, CountsOne, Maps, maps, markIf, marking, MarksOne, Sized, Empty, setBelow, AllJudged}
-use Rattle.survey.proofs.Tallies.{at-or-below, chosen-same, tally-next, tally-le}
+use Rattle.report.specs.declared.Counts.{Counts}
+use Rattle.report.specs.Inner.{addIf}
+use Rattle.report.specs.Survey.{chosen, numbers, tally, health, countsOf, Report, verdictAt, surveyed}
+use Rattle.survey.specs.Inner.{verdictBy, Tells, counting, CountsOne, Maps, maps, markIf, marking, MarksOne, Sized, Empty, setBelow, AllJudged}
+use Rattle.report.proofs.Tallies.{at-or-below, chosen-same, tally-next, tally-le}
 
 -- ---- one sector: what the code's answer tells of the verdict
 

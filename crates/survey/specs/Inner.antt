@@ -2,7 +2,7 @@
 use mathlib.Core.Path.{_≡_}
 use mathlib.Core.Bool.{Bool, true, false, cond}
 use mathlib.Core.List.{List, _++_}
-use Prim.Native.Nat.{ℕ, suc, _*_, _≤_}
+use Prim.Native.Nat.{ℕ, _*_, _≤_}
 use lib.ListN.{length}
 use Rattle.bits.specs.Bits.{bit, mark}
 use Rattle.mode.specs.Sealing.{tweak}
@@ -13,8 +13,9 @@ use Rattle.verdict.specs.Judging.{verdictNumber}
 use Rattle.verdict.specs.Verdict.{Verdict, judge}
 use Rattle.history.specs.Answers.{isWhole, isDoubtful, isClashing, isLost}
 use Rattle.images.specs.Lent.{placesOf}
-use Rattle.survey.specs.declared.Counts.{Counts}
-use Rattle.survey.specs.Survey.{chosen, numbers, tally, health, countsOf}
+use Rattle.report.specs.declared.Counts.{Counts}
+use Rattle.report.specs.Inner.{addIf}
+use Rattle.report.specs.Survey.{chosen, numbers, tally, health, countsOf}
 
 -- the verdicts by the mode, with the tweak of each number
 abbrev pub verdictBy : Scheme → ℕ → List ℕ → List ℕ → List ℕ → ℕ → Verdict
@@ -25,9 +26,6 @@ pub record Tells (j : Judged) (w : Verdict) : Type 0 where
   pub number : judgedNumber j ≡ verdictNumber w
 
 -- one more sector, with the verdict w
-abbrev pub addIf : Bool → ℕ → ℕ
-addIf b k = cond b (suc k) k
-
 abbrev pub counting : Verdict → Counts → Counts
 counting w c = record {
   whole = addIf (isWhole w) (c .whole);

@@ -4,6 +4,8 @@ use answers::Done;
 use answers::Judged;
 use answers::Refusal;
 use mode::Masks;
+use report::Counts;
+use report::Surveyed;
 ghost use mathlib.Core.Path.{_≡_};
 ghost use mathlib.Core.Bool.{true};
 ghost use Prim.Native.Nat.{_+_, _*_, _/_, _<_, _≤_};
@@ -14,23 +16,8 @@ ghost use Rattle.mode.specs.Scheme.{isKey};
 ghost use Rattle.mode.specs.Sealing.{keyFrom, triple};
 ghost use Rattle.history.specs.Volume.{mirror};
 ghost use Rattle.images.specs.Lent.{Room, Within, Scratch};
-ghost use Rattle.survey.specs.Survey.{verdictAt, health, counted, surveyed, reportOf, surveyOutcome};
+ghost use Rattle.report.specs.Survey.{verdictAt, health, counted, surveyed, reportOf, surveyOutcome};
 ghost use Rattle.survey.specs.Inner.{verdictBy, Tells, CountsOne, MarksOne, maps, Empty, Sized, AllJudged, setBelow, inOrder};
-
-// How many sectors have each verdict, and the whole ones in thousandths.
-pub struct Counts {
-    pub whole: usize,
-    pub doubtful: usize,
-    pub clashing: usize,
-    pub lost: usize,
-    pub health: usize,
-}
-
-// What a survey answers.
-pub enum Surveyed {
-    Counted(Counts),
-    Refused(Refusal),
-}
 
 // Judges sector i, whose number makes the context.
 fn judge_at<'k>(

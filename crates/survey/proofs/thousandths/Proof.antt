@@ -1,5 +1,5 @@
 use mathlib.Core.Path.{refl}
-use Rattle.survey.specs.Survey.{health}
+use Rattle.report.specs.Survey.{health}
 use borrow.Author.Needs.{needs}
 use Rattle.survey.proofs.thousandths.Statement.{statement}
 use Rattle.survey.proofs.thousandths.Tie as tie

@@ -6,7 +6,7 @@ use Prim.Native.Nat.{ℕ, zero, suc, _<_, _≤_}
 use native.Mathlib.Decide.{decLt}
 use native.Mathlib.Omega.{arith}
 use lib.ListN.{length, getD}
-use Rattle.survey.specs.Survey.{Sorted, Lists}
+use Rattle.report.specs.Survey.{Sorted, Lists}
 
 -- ---- entries and members
 

@@ -4,8 +4,8 @@ use mathlib.Core.Logic.{⊎-elim, _↔_}
 use mathlib.Core.List.{List, [], _∷_, List·Memᴰ, List·Memᴰ·head, List·Memᴰ·tail, List·Memᴰ·not-nil, List·Memᴰ·cases-cons}
 use Prim.Native.Nat.{ℕ, _<_}
 use native.Mathlib.Omega.{arith}
-use Rattle.survey.specs.Survey.{Sorted, Lists}
-use Rattle.survey.proofs.Orders.{sorted-head, sorted-tail, sorted-map}
+use Rattle.report.specs.Survey.{Sorted, Lists}
+use Rattle.report.proofs.Orders.{sorted-head, sorted-tail, sorted-map}
 
 module _ (R : ℕ → ℕ → Type 0) (n : ℕ) (asym : (x y : ℕ) → x < n → y < n → R x y → R y x → ⊥) where
   -- so no number has the relation to itself

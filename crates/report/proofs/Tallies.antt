@@ -11,9 +11,9 @@ use lib.ListN.{length, length-append}
 use Rattle.block.proofs.Lists.{false-true, clash}
 use Rattle.verdict.specs.Verdict.{Verdict, whole, doubtful, lost, clashing}
 use Rattle.history.specs.Answers.{isWhole, isDoubtful, isClashing, isLost}
-use Rattle.survey.specs.Survey.{chosen, tally, health, Sorted, Lists}
-use Rattle.survey.specs.Inner.{addIf}
-use Rattle.survey.proofs.Orders.{sorted-append}
+use Rattle.report.specs.Survey.{chosen, tally, health, Sorted, Lists}
+use Rattle.report.specs.Inner.{addIf}
+use Rattle.report.proofs.Orders.{sorted-append}
 
 -- ---- the numbers that pass a test
 

@@ -24,11 +24,11 @@ use Rattle.history.proofs.Images.{sector-images}
 use Rattle.answers.proofs.Passing.{Common, survey-passed}
 use Rattle.answers.proofs.Shapes.{shape-facts}
 use Rattle.history.proofs.Refusals.{shape-images}
-use Rattle.survey.specs.declared.Counts.{Counts}
-use Rattle.survey.specs.Survey.{numbers, tally, listed, health, countsOf, written, Report, refused, counted, verdictAt, surveyed, surveyRefusal, surveyOutcome, Fitting, WholeAt, DoubtfulAt, ClashingAt, LostAt, rank, Before, Lists, Many, ByFitting}
-use Rattle.survey.proofs.Orders.{lists-map, Earlier, earlier-asym, Ranked, rank-lists, ranks-append}
-use Rattle.survey.proofs.Once.{one-list, entries-apart}
-use Rattle.survey.proofs.Tallies.{chosen-lists, all-counted, health-most, health-full}
+use Rattle.report.specs.declared.Counts.{Counts}
+use Rattle.report.specs.Survey.{numbers, tally, listed, health, countsOf, written, Report, refused, counted, verdictAt, surveyed, surveyRefusal, surveyOutcome, Fitting, WholeAt, DoubtfulAt, ClashingAt, LostAt, rank, Before, Lists, Many, ByFitting}
+use Rattle.report.proofs.Orders.{lists-map, Earlier, earlier-asym, Ranked, rank-lists, ranks-append}
+use Rattle.report.proofs.Once.{one-list, entries-apart}
+use Rattle.report.proofs.Tallies.{chosen-lists, all-counted, health-most, health-full}
 
 -- ---- one sector
 

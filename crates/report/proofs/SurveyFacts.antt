@@ -17,12 +17,12 @@ use Rattle.history.specs.Volume.{mirror}
 use Rattle.history.proofs.Demand3.{mirror-sound, general}
 use Rattle.history.proofs.Events.{run-bytes}
 use Rattle.answers.proofs.Passing.{Common}
-use Rattle.survey.specs.declared.Counts.{Counts}
-use Rattle.survey.specs.Survey.{tally, Report, refused, counted, verdictAt, surveyOutcome, LostAt, isKept, SurveyFacts}
-use Rattle.survey.proofs.ByFitting.{of-outcome, lost-at, by-fitting, repair-once}
-use Rattle.survey.proofs.Checks.{accepts, survey-passes, survey-refused}
-use Rattle.survey.proofs.Once.{lists-once}
-use Rattle.survey.proofs.Tallies.{all-counted, apart}
+use Rattle.report.specs.declared.Counts.{Counts}
+use Rattle.report.specs.Survey.{tally, Report, refused, counted, verdictAt, surveyOutcome, LostAt, isKept, SurveyFacts}
+use Rattle.report.proofs.ByFitting.{of-outcome, lost-at, by-fitting, repair-once}
+use Rattle.report.proofs.Refusals.{accepts, survey-passes, survey-refused}
+use Rattle.report.proofs.Once.{lists-once}
+use Rattle.report.proofs.Tallies.{all-counted, apart}
 
 -- ---- after a list of events
 

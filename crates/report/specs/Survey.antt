@@ -13,9 +13,9 @@ use Rattle.mode.specs.Scheme.{Place, isKey, isSize, Scheme}
 use Rattle.answers.specs.Answers.{refusalNumber}
 use Rattle.answers.specs.Rules.{firstOf, settleBy, Volume, isShape, surveyRules, volume}
 use Rattle.verdict.specs.Verdict.{Verdict, whole, doubtful, lost, clashing, Means, judge}
-use Rattle.survey.specs.declared.Counts.{Counts}
-use Rattle.survey.specs.declared.Surveyed.{Surveyed}
-use Rattle.survey.specs.declared.Surveyed.the-variants.{Counted, Refused}
+use Rattle.report.specs.declared.Counts.{Counts}
+use Rattle.report.specs.declared.Surveyed.{Surveyed}
+use Rattle.report.specs.declared.Surveyed.the-variants.{Counted, Refused}
 use Rattle.history.specs.Answers.{isWhole, isDoubtful, isClashing, isLost}
 use Rattle.history.specs.HistoryFrom.{AnyBytes}
 use Rattle.history.specs.Machine.{Held, gone, kept, start}
