@@ -35,9 +35,9 @@
  * Any lengths and numbers are safe otherwise: wrong ones are refused.
  *
  * MEMORY AND THREADS. A call keeps no state between calls, allocates nothing and does no input or output. It needs memcpy and memset from
- * the C library and nothing else. It uses less than 48 KiB of stack (MIRROR_STACK_BYTES; measured, not proved); mirror_survey needs most.
- * Calls may run at once in several threads if no buffer that one of them may write is lent to another. A call on a volume is lent whole
- * images, so on one volume only reads and surveys may run at once.
+ * the C library and nothing else. mirror_survey uses less than 48 KiB of stack (MIRROR_STACK_BYTES), every other call less than 20 KiB
+ * (measured, not proved). Calls may run at once in several threads if no buffer that one of them may write is lent to another. A call on a
+ * volume is lent whole images, so on one volume only reads and surveys may run at once.
  *
  * SECRETS. What an attacker can guess, forge or measure is no claim of this library; SECURITY.md in the source tree says more.
  *   - Local and remote sector together give the plaintext WITHOUT the key (mirror_combine): whoever may read both needs no key.

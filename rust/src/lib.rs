@@ -139,10 +139,10 @@
 //!
 //! # Memory and threads
 //!
-//! A call keeps no state, allocates nothing and uses less than 48 KiB of stack
-//! (measured, not proved); the survey needs most. It may be made from any thread.
-//! A call that writes borrows the whole volume, so on one volume only reads and
-//! surveys run at once.
+//! A call keeps no state and allocates nothing. [`Volume::survey`] uses less than
+//! 48 KiB of stack, every other call less than 20 KiB (measured, not proved). A
+//! call may be made from any thread. One that writes borrows the whole volume, so
+//! on one volume only reads and surveys run at once.
 //!
 //! # The library
 //!

@@ -10,6 +10,11 @@
 #include <string.h>
 #include <ucontext.h>
 
+/*
+ * OTHERS is what the header says of every call but the survey. ARRAYS is what the survey needs at least: three arrays of a sector's bytes
+ * to judge in, and three maps with a bit for each sector. If it seems to use less, this program does not measure.
+ */
+enum { OTHERS = 20480, ARRAYS = 3 * MIRROR_SECTOR_BYTES_MAX + 3 * (MIRROR_VOLUME_SECTORS_MAX / 8) };
 enum { ROOM = 131072, PAINT = 0xa5, TAG = MIRROR_TAG_BYTES };
 
 static uint8_t key[MIRROR_KEY_BYTES];
@@ -129,7 +134,7 @@ static void measure_sizes(uint32_t verdict, size_t least)
 
 int main(void)
 {
-    size_t i, most = 0;
+    size_t i;
     stack = (uint8_t *)malloc(ROOM);
     if (stack == NULL) {
         return 1;
@@ -141,18 +146,19 @@ int main(void)
     measure_sizes(MIRROR_DOUBTFUL_REMOTE, MIRROR_SECTOR_BYTES_MIN);
     measure_sizes(MIRROR_REFUSED_LOST, MIRROR_SECTOR_BYTES_MIN);
     measure_sizes(MIRROR_REFUSED_CLASHING, 32);
-    for (i = 0; i < CALLS; i++) {
-        printf("stack: mirror_%s uses at most %lu bytes\n", calls[i].name, (unsigned long)calls[i].most);
-        most = calls[i].most > most ? calls[i].most : most;
-    }
     free(stack);
-    if (calls[CALLS - 1].most < most) {
-        fprintf(stderr, "stack: another call than mirror_survey uses most, and the header says that it does\n");
-        return 1;
-    }
-    if (most < 2 * MIRROR_SECTOR_BYTES_MAX || most >= MIRROR_STACK_BYTES) {
-        fprintf(stderr, "stack: measured %lu bytes, and the header says less than %d\n", (unsigned long)most, MIRROR_STACK_BYTES);
-        return 1;
+    for (i = 0; i < CALLS; i++) {
+        const int surveys = calls[i].run == survey;
+        const unsigned long most = (unsigned long)calls[i].most, bound = surveys ? MIRROR_STACK_BYTES : OTHERS;
+        printf("stack: mirror_%s uses at most %lu bytes\n", calls[i].name, most);
+        if (most >= bound) {
+            fprintf(stderr, "stack: mirror_%s uses %lu bytes, and the header says less than %lu\n", calls[i].name, most, bound);
+            return 1;
+        }
+        if (surveys && most < ARRAYS) {
+            fprintf(stderr, "stack: mirror_survey uses %lu bytes, and its arrays need %d: this is no measurement\n", most, ARRAYS);
+            return 1;
+        }
     }
     return 0;
 }
