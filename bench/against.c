@@ -1,5 +1,7 @@
-// Times the library of now against that of an earlier commit, whose functions bench/against has renamed to before_...
-// First both make a row's call and must give the same. Then they run by turns, and the best turn of each counts.
+// Times the library of now against that of an earlier commit. All names of the earlier header begin with before_ or BEFORE_ here:
+// bench/against makes before.h of it. First both make a row's call and must give the same. Then they run by turns, and the best turn of
+// each counts.
+#include "before.h"
 #include "mirror.h"
 
 #include <stdarg.h>
@@ -7,11 +9,6 @@
 #include <stdlib.h>
 #include <string.h>
 #include <time.h>
-
-// The library of before. Its interface may be another than the header's, so what is called of it is declared here.
-uint32_t before_mirror_survey(const uint8_t *key, size_t key_len, size_t s, size_t n, const uint8_t *local, size_t local_len,
-                              const uint8_t *tags, size_t tags_len, const uint8_t *remote, size_t remote_len, uint32_t *list,
-                              size_t list_len, uint64_t *counts);
 
 static uint8_t key[MIRROR_KEY_BYTES];
 static struct mirror_volume v;             // what a call is lent
@@ -84,8 +81,9 @@ static void make_sector(size_t i, int damaged) {
 // Makes the row's volume in place of the last one. The answer is the row's call, both sides of it.
 static call *const *make_row(const char *row) {
     char name[16], damage[8];
-    size_t s, n, c = 0, end = 0;
-    must(sscanf(row, "%15[^:]:%7[^:]:%zu:%zu%zn", name, damage, &s, &n, &end) == 4 && !row[end] && s % 16 == 0 && s >= 16 &&
+    size_t s, n, c = 0;
+    int end = 0;
+    must(sscanf(row, "%15[^:]:%7[^:]:%zu:%zu%n", name, damage, &s, &n, &end) == 4 && !row[end] && s % 16 == 0 && s >= 16 &&
              s <= MIRROR_SECTOR_BYTES_MAX && n >= 1 && n <= MIRROR_VOLUME_SECTORS_MAX &&
              (!strcmp(damage, "whole") || !strcmp(damage, "third")),
          2, "'%s' is no row: it is CALL:DAMAGE:SIZE:COUNT, such as survey:third:512:1024, and DAMAGE is whole or third", row);
