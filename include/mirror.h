@@ -125,7 +125,10 @@
 #define MIRROR_REFUSED_STAGE_ORDER 10u  /* this stage is not due: read the sector, mend it if doubtful, and begin with the first stage */
 #define MIRROR_REFUSED_LIST_LENGTH 11u  /* the list is shorter than n: lend one entry for each sector */
 
-/* What a survey puts into counts[]: four counts that add up to n, and the health, which is whole * 1000 / n, rounded down. */
+/*
+ * What a survey puts into counts[]: four counts that add up to n, and the health, which is whole * 1000 / n, rounded down. The list has the
+ * kinds in another order: see mirror_survey.
+ */
 #define MIRROR_COUNT_WHOLE 0
 #define MIRROR_COUNT_DOUBTFUL 1
 #define MIRROR_COUNT_CLASHING 2
@@ -283,7 +286,8 @@ MIRROR_ANSWER mirror_mend(const uint8_t *key, size_t key_len, size_t s, size_t n
  *
  * The list is in repair order: the first counts[MIRROR_COUNT_LOST] entries are the lost sectors, the next counts[MIRROR_COUNT_CLASHING] the
  * clashing ones, the next counts[MIRROR_COUNT_DOUBTFUL] the doubtful ones; within a kind the numbers rise. So no read is needed to tell the
- * kinds, and the list is one value for a key and a volume.
+ * kinds, and the list is one value for a key and a volume. The clashing ones begin at list + counts[MIRROR_COUNT_LOST], the doubtful ones
+ * counts[MIRROR_COUNT_CLASHING] entries behind that.
  *   1, 2, 8 as mirror_blank
  *   11 list_len is below n
  *   MIRROR_DONE: go by MIRROR_REFUSED_LOST and MIRROR_REFUSED_CLASHING above for the lost and the clashing sectors, and mend the doubtful.

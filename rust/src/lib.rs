@@ -81,9 +81,9 @@
 //! assert_eq!(output, plaintext);
 //!
 //! let mut list = [0; 4];
-//! let (survey, not_whole) = volume.survey(&mut list)?;
+//! let (survey, listed) = volume.survey(&mut list)?;
 //! assert_eq!((survey.whole, survey.health), (4, 1000));
-//! assert!(not_whole.is_empty());
+//! assert!(listed.is_empty());
 //! # Ok::<(), Refusal>(())
 //! ```
 //!

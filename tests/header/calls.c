@@ -566,10 +566,10 @@ static void damage_all(void)
 }
 
 /* So many entries of the list, from `at` on, are sectors of which a read answers this. Gives the entry behind them. */
-static size_t listed(size_t at, uint64_t count, uint32_t answer)
+static size_t listed(size_t at, uint64_t count, uint32_t answer, int line)
 {
     for (; count > 0; count--, at++) {
-        answers(answer, mirror_read(VOLUME, list[at], IMAGES, OUT), __LINE__, "reading a listed sector");
+        answers(answer, mirror_read(VOLUME, list[at], IMAGES, OUT), line, "reading a listed sector");
     }
     return at;
 }
@@ -577,9 +577,9 @@ static size_t listed(size_t at, uint64_t count, uint32_t answer)
 /* The counts tell which entries of the list are of which kind. The doubtful one of damage_all is so at its tag. */
 static void kinds_by_counts(void)
 {
-    size_t at = listed(0, counts[MIRROR_COUNT_LOST], MIRROR_REFUSED_LOST);
-    at = listed(at, counts[MIRROR_COUNT_CLASHING], MIRROR_REFUSED_CLASHING);
-    at = listed(at, counts[MIRROR_COUNT_DOUBTFUL], MIRROR_DOUBTFUL_TAG);
+    size_t at = listed(0, counts[MIRROR_COUNT_LOST], MIRROR_REFUSED_LOST, __LINE__);
+    at = listed(at, counts[MIRROR_COUNT_CLASHING], MIRROR_REFUSED_CLASHING, __LINE__);
+    at = listed(at, counts[MIRROR_COUNT_DOUBTFUL], MIRROR_DOUBTFUL_TAG, __LINE__);
     check(at == COUNT - counts[MIRROR_COUNT_WHOLE], __LINE__, "mirror_survey", "lists more or fewer than are not whole");
 }
 

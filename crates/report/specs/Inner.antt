@@ -1,4 +1,4 @@
--- What laws of counts speak of. Assumes nothing: this is a definition.
+-- One more in a count, for the laws here and the code of the survey. Assumes nothing: this is a definition.
 use mathlib.Core.Bool.{Bool, cond}
 use Prim.Native.Nat.{ℕ, suc}
 

@@ -145,7 +145,8 @@ pub record ByFitting (k : Key) (s n : ℕ) (v : Triple) (before : List ℕ) (c :
   pub rounded-down : c .health ≡ c .whole * 1000 / n
   pub health-most : c .health ≤ 1000
   pub health-full : (c .health ≡ 1000) ↔ ((i : ℕ) → i < n → WholeAt k s v i)
-  -- the front of the list: the lost, then the clashing, then the doubtful sectors that are counted above
+  -- the front of the list: the lost, then the clashing, then the doubtful sectors that are counted above (.0 of a count is the list of the
+  -- numbers that it counts)
   pub front : List ℕ
   pub by-kind : front ≡ lost-count .0 ++ clashing-count .0 ++ doubtful-count .0
   -- so it has the numbers of the sectors that are not whole, in repair order, no two of them equal
@@ -161,9 +162,9 @@ isKept gone = false
 isKept (kept P d) = true
 
 pub record SurveyFacts : Type 1 where
-  -- there is one such list, so there is one such count,
+  -- no two rising lists have the same numbers, so a count is one number,
   pub lists-once : (P : ℕ → Type 0) (n : ℕ) (l m : List ℕ) → Lists _<_ P n l → Lists _<_ P n m → l ≡ m
-  -- and one in repair order
+  -- and no two lists in repair order
   pub repair-once : (v : Triple) → AnyBytes v → (k : Key) (s n : ℕ) → isKey k ≡ true → isSize s ≡ true → isShape s n v ≡ true
       → (P : ℕ → Type 0) (l m : List ℕ) → Lists (Before k s v) P n l → Lists (Before k s v) P n m → l ≡ m
   -- with a key, a size, a shape and a list that are right a survey is not refused

@@ -1,4 +1,4 @@
-// What a survey reports (document 01).
+// What a survey reports (document 01, change request S-1).
 use answers::Refusal;
 
 // How many sectors have each verdict, and the whole ones in thousandths.

@@ -26,15 +26,16 @@ sets-append (x ∷ a) b l i = sets-append a b (set l i x) (suc i) ∙ ap (λ (k 
 -- The first i of n numbers of a map are listed, from an entry on.
 pub record Listing (m : List ℕ) (n : ℕ) (old : List ℕ) (at i next : ℕ) (list : List ℕ) : Type 0 where
   pub reached : i ≤ n
-  pub room : at + length (setBelow n m) ≤ length old
+  pub room : n ≤ length old
+  pub few : at + length (setBelow n m) ≤ n
   pub entry : next ≡ at + length (setBelow i m)
   pub entries : list ≡ sets old at (setBelow i m)
   pub size : length list ≡ length old
 
 module _ (m : List ℕ) (n : ℕ) (old : List ℕ) (at : ℕ) where
-  pub listing-none : at + length (setBelow n m) ≤ length old → Listing m n old at 0 at old
+  pub listing-none : n ≤ length old → at + length (setBelow n m) ≤ n → Listing m n old at 0 at old
   unfolding chosen
-  listing-none h = record { reached = omega arith; room = h; entry = omega arith; entries = refl; size = refl }
+  listing-none h k = record { reached = omega arith; room = h; few = k; entry = omega arith; entries = refl; size = refl }
 
   -- the numbers at and below i
   set-next : (i : ℕ) {b : Bool} → b ≡ bit i m → setBelow (i + 1) m ≡ cond b (setBelow i m ++ i ∷ []) (setBelow i m)
@@ -43,11 +44,11 @@ module _ (m : List ℕ) (n : ℕ) (old : List ℕ) (at : ℕ) where
 
   module _ {i next : ℕ} {list : List ℕ} (v : Listing m n old at i next list) (h : i < n) {r : Bool} (e : r ≡ bit i m) where
     -- where the bit is set, there is an entry for its number
-    pub listing-room : r ≡ true → next < length list
+    pub listing-room : r ≡ true → next < n
     listing-room d =
         let l = chosen-le (λ j. bit j m) (i + 1) n (omega arith) in
         let k = ap length (set-next i (sym d ∙ e)) in
-        omega (arith, v .room, v .entry, v .size, length-append (setBelow i m) (i ∷ []))
+        omega (arith, v .few, v .entry, length-append (setBelow i m) (i ∷ []))
 
     pub listing-one : r ≡ true → {k : ℕ} {new : List ℕ} → new ≡ set list next i → k ≡ next + 1 → Listing m n old at (i + 1) k new
     listing-one d el ek =
@@ -55,6 +56,7 @@ module _ (m : List ℕ) (n : ℕ) (old : List ℕ) (at : ℕ) where
         record {
           reached = omega arith;
           room = v .room;
+          few = v .few;
           entry = omega (arith, v .entry, ek, ap length s, length-append (setBelow i m) (i ∷ []));
           entries =
               el
@@ -70,6 +72,7 @@ module _ (m : List ℕ) (n : ℕ) (old : List ℕ) (at : ℕ) where
         record {
           reached = omega arith;
           room = v .room;
+          few = v .few;
           entry = ek ∙ v .entry ∙ ap (λ (l : List ℕ). at + length l) (sym s);
           entries = el ∙ v .entries ∙ ap (sets old at) (sym s);
           size = ap length el ∙ v .size;
@@ -118,8 +121,8 @@ module _ {w : ℕ → Verdict} {n : ℕ} {c : Counts} {m : Maps} (f : AllJudged 
   unfolding listed
   judged-order = ap₂ (λ (l x : List ℕ). l ++ x) (ap₂ (λ (l x : List ℕ). l ++ x) (f .lost) (f .clashing)) (f .doubtful)
 
-  pub judged-fits : {room : ℕ} → n ≤ room → length (inOrder n m) ≤ room
-  judged-fits h = omega (arith, ap length judged-order, length-listed w n)
+  pub judged-few : length (inOrder n m) ≤ n
+  judged-few = omega (arith, ap length judged-order, length-listed w n)
 
   pub judged-listed : (list : List ℕ) {new : List ℕ} → n ≤ length list → new ≡ sets list 0 (inOrder n m) → surveyed w n list ≡ (counted c, new)
   judged-listed list room e =

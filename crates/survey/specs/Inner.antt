@@ -49,9 +49,11 @@ pub record Maps : Type 0 where
 abbrev pub maps : List ℕ → List ℕ → List ℕ → Maps
 maps l c d = record { lost = l; clashing = c; doubtful = d }
 
+-- with number i in the map, if so
 abbrev pub markIf : Bool → ℕ → List ℕ → List ℕ
 markIf b i m = cond b (mark i true m) m
 
+-- sector i, with the verdict w, in the map of its kind
 abbrev pub marking : Verdict → ℕ → Maps → Maps
 marking w i m = record {
   lost = markIf (isLost w) i (m .lost);
@@ -59,7 +61,7 @@ marking w i m = record {
   doubtful = markIf (isDoubtful w) i (m .doubtful);
 }
 
--- the maps have one more number, that of the sector of which j tells the verdict
+-- number i is now in the map of the kind that j tells, or in none if j tells whole; all else is as it was
 abbrev pub MarksOne : Judged → ℕ → Maps → Maps → Type 0
 MarksOne j i old new = (w : Verdict) → Tells j w → new ≡ marking w i old
 
@@ -80,7 +82,7 @@ pub record Empty (n : ℕ) (m : Maps) : Type 0 where
 abbrev pub setBelow : ℕ → List ℕ → List ℕ
 setBelow n m = chosen (λ i. bit i m) n
 
--- those in all three, in repair order
+-- those of the three maps, one map behind the other, in repair order
 abbrev pub inOrder : ℕ → Maps → List ℕ
 inOrder n m = setBelow n (m .lost) ++ setBelow n (m .clashing) ++ setBelow n (m .doubtful)
 

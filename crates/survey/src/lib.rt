@@ -1,4 +1,4 @@
-// The survey of a volume (document 01). The call takes any input and checks it for itself.
+// The survey of a volume (document 01, change request S-1). The call takes any input and checks it for itself.
 use aes::Table;
 use answers::Done;
 use answers::Judged;
@@ -82,7 +82,7 @@ fn count_verdict(c: Counts, judged: Judged) -> Counts
     }
 }
 
-// BitsTell the number i as a bit of its sector's kind. A whole sector has none.
+// Keeps the number i as a bit in the map of its sector's kind. A whole sector is in no map.
 fn mark_kind(lost: &mut [u64], clashing: &mut [u64], doubtful: &mut [u64], i: usize, judged: Judged)
     requires { ⌜ (i / 64 < length (now lost)) × (i / 64 < length (now clashing)) × (i / 64 < length (now doubtful)) ⌝ }
     ensures { λ _. ⌜ MarksOne judged i (maps (now (lost .entry)) (now (clashing .entry)) (now (doubtful .entry))) (maps (now (lost .exit)) (now (clashing .exit)) (now (doubtful .exit))) ⌝ }
@@ -160,7 +160,7 @@ fn judge_all<'k>(
 
 // Lists the numbers below n that are set in the map of a kind, from an entry on, and gives the entry behind.
 fn list_kind(map: &[u64], n: usize, list: &mut [u32], at: usize) -> usize
-    requires { ⌜ (n ≤ 65536) × (n ≤ 64 * length (now map)) × (at + length (setBelow n (now map)) ≤ length (now list)) ⌝ }
+    requires { ⌜ (n ≤ 65536) × (n ≤ 64 * length (now map)) × (n ≤ length (now list)) × (at + length (setBelow n (now map)) ≤ n) ⌝ }
     ensures { λ r. ⌜ (r ≡ at + length (setBelow n (now (map .entry)))) × (now (list .exit) ≡ sets (now (list .entry)) at (setBelow n (now (map .entry)))) ⌝ }
 {
     let mut next = at;
@@ -177,7 +177,7 @@ fn list_kind(map: &[u64], n: usize, list: &mut [u32], at: usize) -> usize
 
 // Lists the maps' numbers in repair order.
 fn list_all(lost: &[u64], clashing: &[u64], doubtful: &[u64], n: usize, list: &mut [u32])
-    requires { ⌜ (n ≤ 65536) × Sized n (maps (now lost) (now clashing) (now doubtful)) × (length (inOrder n (maps (now lost) (now clashing) (now doubtful))) ≤ length (now list)) ⌝ }
+    requires { ⌜ (n ≤ 65536) × Sized n (maps (now lost) (now clashing) (now doubtful)) × (n ≤ length (now list)) × (length (inOrder n (maps (now lost) (now clashing) (now doubtful))) ≤ n) ⌝ }
     ensures { λ _. ⌜ now (list .exit) ≡ sets (now (list .entry)) 0 (inOrder n (maps (now (lost .entry)) (now (clashing .entry)) (now (doubtful .entry)))) ⌝ }
 {
     let first = list_kind(lost, n, list, 0);

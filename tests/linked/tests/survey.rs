@@ -228,7 +228,7 @@ fn mixtures_in_repair_order() {
     println!("{surveys} surveys of mixed sectors agree");
 }
 
-/// Each kind alone fills the list, or all of it but one entry.
+/// All sectors are of one kind, or all but one.
 #[test]
 fn one_kind_and_one_other() {
     let mut rng = Rng::new(52);

@@ -234,7 +234,7 @@ impl Volume {
     fn of_kinds(rng: &mut Rng, size: usize, kinds: &str) -> Volume {
         let mut volume = Volume::blanked(rng, size, kinds.len());
         for (number, kind) in kinds.bytes().enumerate() {
-            // Doubtful sectors have all three places in turn.
+            // The place goes by the number.
             let [one, another, _] = [0, 1, 2].map(|step| Place::ALL[(number + step) % 3]);
             match kind {
                 b'w' => {}
@@ -403,16 +403,17 @@ fn the_largest_volume() {
 /// Every third sector is damaged, with the kinds by turns.
 #[test]
 fn the_largest_volume_in_repair_order() {
-    let kinds: String = "wdwwcwwlw".chars().cycle().take(65_536).collect();
+    // Ten and not nine, so that each kind has each place.
+    let kinds: String = "wdwwcwwlww".chars().cycle().take(65_536).collect();
     let volume = Volume::of_kinds(&mut Rng::new(43), 32, &kinds);
-    let every_ninth_from = |first| (first..65_536).step_by(9);
-    let due: Vec<u32> = every_ninth_from(7)
-        .chain(every_ninth_from(4))
-        .chain(every_ninth_from(1))
+    let every_tenth_from = |first| (first..65_536).step_by(10);
+    let due: Vec<u32> = every_tenth_from(7)
+        .chain(every_tenth_from(4))
+        .chain(every_tenth_from(1))
         .collect();
-    assert_eq!(due.len(), 21_845);
+    assert_eq!(due.len(), 19_661);
     let (counts, list) = volume.surveyed();
-    assert_eq!(counts, [43_691, 7_282, 7_282, 7_281]);
+    assert_eq!(counts, [45_875, 6_554, 6_554, 6_553]);
     assert!(list == due, "another list");
 }
 

@@ -25,7 +25,10 @@ mul-list : tie.Need-mul-list Inv-loop μ-loop
 mul-list c = let r = listing-room _ _ _ _ (c .before .before .before .loop .inv) (omega arith) (c .before .test-bit .ensures) (c .if1 .taken) in search needs
 
 slice-write-list : tie.Need-slice-write-list Inv-loop μ-loop
-slice-write-list c = listing-room _ _ _ _ (c .before .before .before .loop .inv) (omega arith) (c .before .test-bit .ensures) (c .if1 .taken)
+slice-write-list c =
+    let v = c .before .before .before .loop .inv in
+    let r = listing-room _ _ _ _ v (omega arith) (c .before .test-bit .ensures) (c .if1 .taken) in
+    omega (arith, v .room, v .size)
 
 add-next : tie.Need-add-next Inv-loop μ-loop
 add-next c = let r = listing-room _ _ _ _ (c .before .before .before .loop .inv) (omega arith) (c .before .test-bit .ensures) (c .if1 .taken) in search needs

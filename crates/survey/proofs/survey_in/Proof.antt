@@ -1,4 +1,4 @@
-use Rattle.survey.proofs.Listing.{empty-maps, judged-fits, judged-listed}
+use Rattle.survey.proofs.Listing.{empty-maps, judged-few, judged-listed}
 use borrow.Author.Needs.{needs}
 use Rattle.survey.proofs.survey_in.Statement.{statement}
 use Rattle.survey.proofs.survey_in.Tie as tie
@@ -28,7 +28,7 @@ list-all-requires : tie.Need-list-all-requires
 list-all-requires c κs =
     let p = c .before .before .before .before .before .before .before .before .before .before .before .before .before .before .before .before .before .before .before .before .before .before .before .before .before .before .before .before .pre in
     let f = c .before .before .before .before .before .before .before .before .before .before .before .before .before .judge-all .ensures in
-    (p .1 .count, f .sized, judged-fits f (p .2))
+    (p .1 .count, f .sized, p .2, judged-few f)
 
 same-length : tie.Need-same-length
 same-length c = search needs
