@@ -82,7 +82,7 @@ chosen-same p q zero e = refl
 chosen-same p q (suc n) e =
     ap₂ (λ (b : Bool) (l : List ℕ). cond b (l ++ n ∷ []) l) (e n (omega arith)) (chosen-same p q n (λ i h. e i (omega arith)))
 
--- below n + 1
+-- what is below i + 1 is below i, or i
 pub at-or-below : (j i : ℕ) → j < suc i → (j < i) ⊎ (j ≡ i)
 at-or-below j i h = go (decLt j i)
   where
