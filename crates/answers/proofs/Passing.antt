@@ -74,29 +74,29 @@ pub record Common (v : Triple) (vol : Volume) : Type 0 where
   pub size : isSize (vol .size) ≡ true
   pub shape : isShape (vol .size) (vol .count) v ≡ true
 
-pub common : (v : Triple) (vol : Volume) → firstOf (volumeRules vol (isShape (vol .size) (vol .count) v)) ≡ none → Common v vol
+pub common : (v : Triple) (vol : Volume) → firstOf (volumeRules (vol .key) (vol .size) (isShape (vol .size) (vol .count) v)) ≡ none → Common v vol
 common v vol e =
-    let (a, (b, (c, z))) = none-holds (volumeRules vol (isShape (vol .size) (vol .count) v)) e in
+    let (a, (b, (c, z))) = none-holds (volumeRules (vol .key) (vol .size) (isShape (vol .size) (vol .count) v)) e in
     record { key = not-false (isKey (vol .key)) a; size = not-false (isSize (vol .size)) b; shape = not-false (isShape (vol .size) (vol .count) v) c }
 
-pub volume-pass : (v : Triple) (vol : Volume) → Common v vol → firstOf (volumeRules vol (isShape (vol .size) (vol .count) v)) ≡ none
+pub volume-pass : (v : Triple) (vol : Volume) → Common v vol → firstOf (volumeRules (vol .key) (vol .size) (isShape (vol .size) (vol .count) v)) ≡ none
 volume-pass v vol c = simp (c .key, c .size, c .shape)
 
 -- a call on one sector
-pub sector-pass : (v : Triple) (a : Args) → Common v (a .volume) → a .number < a .volume .count → firstOf (sectorRules (isShape (a .volume .size) (a .volume .count) v) a) ≡ none
+pub sector-pass : (v : Triple) (a : Args) → Common v (a .volume) → a .number < a .volume .count → firstOf (sectorRules (a .volume .key) (a .volume .size) (a .volume .count) (isShape (a .volume .size) (a .volume .count) v) (a .number)) ≡ none
 sector-pass v a c h =
-    first-none (numberRules (a .volume .count) (a .number)) (volumeRules (a .volume) (isShape (a .volume .size) (a .volume .count) v)) (volume-pass v (a .volume) c)
+    first-none (numberRules (a .volume .count) (a .number)) (volumeRules (a .volume .key) (a .volume .size) (isShape (a .volume .size) (a .volume .count) v)) (volume-pass v (a .volume) c)
     ∙ simp (lt-leb (a .volume .count) (a .number) h)
 
 -- a survey
-pub survey-passed : (v : Triple) (vol : Volume) (room : ℕ) → firstOf (surveyRules vol (isShape (vol .size) (vol .count) v) room) ≡ none
+pub survey-passed : (v : Triple) (vol : Volume) (room : ℕ) → firstOf (surveyRules (vol .key) (vol .size) (vol .count) (isShape (vol .size) (vol .count) v) room) ≡ none
     → Common v vol × (vol .count ≤ room)
 survey-passed v vol room e =
-    let every : List Rule = volumeRules vol (isShape (vol .size) (vol .count) v) in
+    let every : List Rule = volumeRules (vol .key) (vol .size) (isShape (vol .size) (vol .count) v) in
     let eleven : List Rule = listRules (vol .count) room in
     (common v vol (none-left eleven every e), ltb-false room (vol .count) (none-holds eleven (none-right eleven every e) .0))
 
-pub survey-pass : (v : Triple) (vol : Volume) (room : ℕ) → Common v vol → vol .count ≤ room → firstOf (surveyRules vol (isShape (vol .size) (vol .count) v) room) ≡ none
+pub survey-pass : (v : Triple) (vol : Volume) (room : ℕ) → Common v vol → vol .count ≤ room → firstOf (surveyRules (vol .key) (vol .size) (vol .count) (isShape (vol .size) (vol .count) v) room) ≡ none
 survey-pass v vol room c h =
-    first-none (listRules (vol .count) room) (volumeRules vol (isShape (vol .size) (vol .count) v)) (volume-pass v vol c)
+    first-none (listRules (vol .count) room) (volumeRules (vol .key) (vol .size) (isShape (vol .size) (vol .count) v)) (volume-pass v vol c)
     ∙ simp (le-ltb room (vol .count) h)

@@ -50,8 +50,8 @@ pub record Volume : Type 0 where
   pub size : ℕ
   pub count : ℕ
 
-abbrev pub volume : Key → ℕ → ℕ → Volume
-volume k s n = record { key = k; size = s; count = n }
+abbrev pub volumeOf : Key → ℕ → ℕ → Volume
+volumeOf k s n = record { key = k; size = s; count = n }
 
 -- these, and a sector's number
 pub record Args : Type 0 where
@@ -59,7 +59,7 @@ pub record Args : Type 0 where
   pub number : ℕ
 
 abbrev pub args : Key → ℕ → ℕ → ℕ → Args
-args k s n i = record { volume = volume k s n; number = i }
+args k s n i = record { volume = volumeOf k s n; number = i }
 
 -- n from 1 to 65,536, two images of n times s bytes, and tags of n times 16
 unfoldable pub shape : ℕ → ℕ → ℕ → ℕ → ℕ → Bool
@@ -116,13 +116,13 @@ openRules k s out g d = keyRules k ++ (sizeRules s ++ (lengthRules out s ++ (len
 -- ---- the calls on a volume
 
 -- of every call
-abbrev pub volumeRules : Volume → Bool → List Rule
-volumeRules vol right = keyRules (vol .key) ++ (sizeRules (vol .size) ++ shapeRules right)
+abbrev pub volumeRules : Key → ℕ → Bool → List Rule
+volumeRules k s right = keyRules k ++ (sizeRules s ++ shapeRules right)
 
--- of a call on one sector
-abbrev pub sectorRules : Bool → Args → List Rule
-sectorRules right a = volumeRules (a .volume) right ++ numberRules (a .volume .count) (a .number)
+-- of a call on sector i of n
+abbrev pub sectorRules : Key → ℕ → ℕ → Bool → ℕ → List Rule
+sectorRules k s n right i = volumeRules k s right ++ numberRules n i
 
--- of a survey with a list of `room` numbers
-abbrev pub surveyRules : Volume → Bool → ℕ → List Rule
-surveyRules vol right room = volumeRules vol right ++ listRules (vol .count) room
+-- of a survey of n sectors with a list of `room` numbers
+abbrev pub surveyRules : Key → ℕ → ℕ → Bool → ℕ → List Rule
+surveyRules k s n right room = volumeRules k s right ++ listRules n room

@@ -5,7 +5,7 @@ ghost use mathlib.Core.List.{_++_};
 ghost use Rattle.mode.specs.Scheme.{isSize};
 ghost use Rattle.mode.specs.Sealing.{keyFrom};
 ghost use Rattle.answers.specs.Answers.{doubtNumber, refusalNumber, placeNamed, doneNumber, judgedNumber, doneOption};
-ghost use Rattle.answers.specs.Rules.{firstOf, firstSome, keyRules, sizeRules, lengthRules, sideRules, shape, shapeRules, numberRules, listRules, volume, args, pairRules, partsRules, openRules, volumeRules, sectorRules, surveyRules};
+ghost use Rattle.answers.specs.Rules.{firstOf, firstSome, keyRules, sizeRules, lengthRules, sideRules, shape, shapeRules, numberRules, listRules, pairRules, partsRules, openRules, volumeRules, sectorRules, surveyRules};
 
 // Document 01's three places.
 pub enum Place {
@@ -260,7 +260,7 @@ pub fn check_open(key: &[u8], s: usize, out: usize, g: usize, side: u32) -> Done
 
 // Refusals 1, 2 and 8, of every call on a volume.
 fn check_volume(key: &[u8], s: usize, n: usize, l: usize, g: usize, r: usize) -> Done
-    ensures { λ d. ⌜ firstOf (volumeRules (volume (keyFrom (now (key .entry))) s n) (shape s n l g r)) ≡ doneOption d ⌝ }
+    ensures { λ d. ⌜ firstOf (volumeRules (keyFrom (now (key .entry))) s (shape s n l g r)) ≡ doneOption d ⌝ }
 {
     let keyed = check_key(key);
     let sized = check_size(s);
@@ -271,7 +271,7 @@ fn check_volume(key: &[u8], s: usize, n: usize, l: usize, g: usize, r: usize) ->
 
 // And then 9, of a call on sector i.
 pub fn check_sector(key: &[u8], s: usize, n: usize, i: usize, l: usize, g: usize, r: usize) -> Done
-    ensures { λ d. ⌜ firstOf (sectorRules (shape s n l g r) (args (keyFrom (now (key .entry))) s n i)) ≡ doneOption d ⌝ }
+    ensures { λ d. ⌜ firstOf (sectorRules (keyFrom (now (key .entry))) s n (shape s n l g r) i) ≡ doneOption d ⌝ }
 {
     let images = check_volume(key, s, n, l, g, r);
     let number = check_number(n, i);
@@ -289,7 +289,7 @@ pub fn check_sector_and_length(
     r: usize,
     p: usize,
 ) -> Done
-    ensures { λ d. ⌜ firstOf (sectorRules (shape s n l g r) (args (keyFrom (now (key .entry))) s n i) ++ lengthRules p s) ≡ doneOption d ⌝ }
+    ensures { λ d. ⌜ firstOf (sectorRules (keyFrom (now (key .entry))) s n (shape s n l g r) i ++ lengthRules p s) ≡ doneOption d ⌝ }
 {
     let sector = check_sector(key, s, n, i, l, g, r);
     let plain = check_length(p, s);
@@ -306,7 +306,7 @@ pub fn check_survey(
     r: usize,
     room: usize,
 ) -> Done
-    ensures { λ d. ⌜ firstOf (surveyRules (volume (keyFrom (now (key .entry))) s n) (shape s n l g r) room) ≡ doneOption d ⌝ }
+    ensures { λ d. ⌜ firstOf (surveyRules (keyFrom (now (key .entry))) s n (shape s n l g r) room) ≡ doneOption d ⌝ }
 {
     let images = check_volume(key, s, n, l, g, r);
     let list = check_list(n, room);

@@ -1,5 +1,5 @@
 -- Demand 3 for the mode. Assumes nothing.
-use Rattle.mode.specs.Scheme.{Lawful, Sound, dcm, scheme}
+use Rattle.mode.specs.Scheme.{Lawful, dcm, scheme}
 use Rattle.mode.specs.Sealing.{tweak, sealed}
 use Rattle.mode.proofs.Laws.{sound}
 use Rattle.history.specs.History.{Demand3}
@@ -7,24 +7,23 @@ use Rattle.history.specs.HistoryFrom.{General}
 use Rattle.history.specs.Machine.{start}
 use Rattle.history.specs.Volume.{mirror}
 use Rattle.history.proofs.History.{history-from, start-agrees, history-any}
+use Rattle.history.proofs.Images.{AllLawful}
 
 -- an address is one tweak among others
-pub mirror-sound : Sound mirror
+pub mirror-sound : AllLawful mirror
 unfolding mirror sealed scheme dcm
-mirror-sound = record {
-  lawful = λ k s ek es.
-      let L : Lawful s (scheme k) = sound .lawful k s ek es in
-      record {
-        shape = λ a P p. L .shape (tweak a) P p;
-        left = λ a P p. L .left (tweak a) P p;
-        right = λ a P p. L .right (tweak a) P p;
-        onto-left = λ a g x p q e. L .onto-left (tweak a) g x p q e;
-        onto-right = λ a g x p q e. L .onto-right (tweak a) g x p q e;
-        sum = λ a P p. L .sum (tweak a) P p;
-        plain-local = L .plain-local;
-        plain-remote = L .plain-remote;
-      };
-}
+mirror-sound vol ek es =
+    let L : Lawful (vol .size) (scheme (vol .key)) = sound .lawful (vol .key) (vol .size) ek es in
+    record {
+      shape = λ a P p. L .shape (tweak a) P p;
+      left = λ a P p. L .left (tweak a) P p;
+      right = λ a P p. L .right (tweak a) P p;
+      onto-left = λ a g x p q e. L .onto-left (tweak a) g x p q e;
+      onto-right = λ a g x p q e. L .onto-right (tweak a) g x p q e;
+      sum = λ a P p. L .sum (tweak a) P p;
+      plain-local = L .plain-local;
+      plain-remote = L .plain-remote;
+    }
 
 pub general : General
 general = record { from-agreeing = history-from mirror mirror-sound; from-any-lengths = history-any mirror mirror-sound }

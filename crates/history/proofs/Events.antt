@@ -6,17 +6,17 @@ use mathlib.Core.Option.{Option, none, some}
 use Prim.Native.Nat.{ℕ, _<_}
 use native.Mathlib.Decide.{ℕ-discrete}
 use borrow.Author.Tests.{eq-eqb, ne-eqb}
-use Rattle.mode.specs.Sealing.{Triple, Key}
-use Rattle.mode.specs.Scheme.{Place, Scheme, Sound}
+use Rattle.mode.specs.Sealing.{Triple}
+use Rattle.mode.specs.Scheme.{Place}
 use Rattle.answers.specs.Rules.{Args, Volume}
-use Rattle.history.specs.Volume.{sectorOf, write, Call, sector, sealing, refusal}
+use Rattle.history.specs.Volume.{sectorOf, write, Call, sector, sealing, refusal, Schemes}
 use Rattle.history.specs.Machine.{called, Held, step, afterDamage, State, put, machine}
 use Rattle.history.specs.Power.{Fate, Event, call, damage, isRefused, told, Images, LentBytes, CutOf, leavesCall, leaves, seen, Allowed, AllAllowed, run, hold}
 use Rattle.history.specs.History.{at, own}
 use Rattle.history.specs.HistoryFrom.{Agree, AnyBytes, Agrees}
 use Rattle.history.proofs.Refusals.{accepted-passed}
 use Rattle.history.proofs.Sector.{keeps-hurt}
-use Rattle.history.proofs.Images.{any-bytes, bytes-write, images-write, sector-write, sector-other, leaves-refused, left, held-after}
+use Rattle.history.proofs.Images.{any-bytes, bytes-write, images-write, sector-write, sector-other, leaves-refused, left, held-after, AllLawful}
 
 -- ---- the state
 
@@ -39,14 +39,14 @@ takes-args vol a k = ap (λ (w : Volume). argsOf w (a .number)) k
 
 -- ---- calls
 
-module _ (seals : Key → Scheme) (vol : Volume) (v : Triple) (h : State) (a : Args) (c : Call) (f : Fate) where
+module _ (seals : Schemes) (vol : Volume) (v : Triple) (h : State) (a : Args) (c : Call) (f : Fate) where
   pub machine-accepted : refusal seals v a c ≡ none → machine h (seen seals vol v (call a c f)) ≡ put (a .number) (step (a .volume .size) c (told (sealing seals a) (a .number) (sector (leavesCall seals v a c f) a) c f) (h (a .number))) h
   machine-accepted e = ap (λ (r : Option ℕ). machine h (called a c (isRefused r) (told (sealing seals a) (a .number) (sector (leavesCall seals v a c f) a) c f))) e
 
   pub machine-refused : (k : ℕ) → refusal seals v a c ≡ some k → machine h (seen seals vol v (call a c f)) ≡ h
   machine-refused k e = ap (λ (r : Option ℕ). machine h (called a c (isRefused r) (told (sealing seals a) (a .number) (sector (leavesCall seals v a c f) a) c f))) e
 
-module _ (seals : Key → Scheme) (sound : Sound seals) (vol : Volume) where
+module _ (seals : Schemes) (sound : AllLawful seals) (vol : Volume) where
   -- one sector changes, and what is held of it
   agrees-put : (v w : Triple) (h : State) (i : ℕ) (x : Held) → Agrees seals vol v h → Images (vol .size) (vol .count) w
       → Agree (vol .size) (own seals vol) i (at vol w i) x

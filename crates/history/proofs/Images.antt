@@ -1,16 +1,17 @@
 -- Three images and their sectors, and what a call that is not refused leaves of them. Assumes nothing but the laws of the sealing.
 use mathlib.Core.Path.{_≡_, refl, sym, _∙_, ap, subst}
+use mathlib.Core.Bool.{true}
 use mathlib.Core.Logic.{_⊎_, inl, inr}
 use mathlib.Core.List.{List, [], _∷_}
 use mathlib.Core.Option.{Option, none, some}
 use Prim.Native.Nat.{ℕ, _<_, _*_}
 use lib.ListN.{length}
 use Rattle.block.specs.Bytes.{Bytes, Plain, part, patch}
-use Rattle.mode.specs.Sealing.{Triple, Key}
-use Rattle.mode.specs.Scheme.{Place, local, tag, remote, on, wide, Scheme, Sector, Lawful, Sound}
+use Rattle.mode.specs.Sealing.{Triple}
+use Rattle.mode.specs.Scheme.{Place, local, tag, remote, on, wide, Sector, Lawful, isKey, isSize}
 use Rattle.verdict.specs.Verdict.{Fits}
-use Rattle.answers.specs.Rules.{Args}
-use Rattle.history.specs.Volume.{sectorOf, store, write, writeAll, Call, first, writes, unless, sector, sealing, refusal, landed, after}
+use Rattle.answers.specs.Rules.{Args, Volume}
+use Rattle.history.specs.Volume.{sectorOf, store, write, writeAll, Call, first, writes, unless, sector, sealing, refusal, landed, after, Schemes}
 use Rattle.history.specs.Machine.{Held, step}
 use Rattle.history.specs.Power.{Fate, finished, cut, told, Images, LentBytes, CutOf, leavesCall}
 use Rattle.history.specs.HistoryFrom.{Agree, AnyBytes}
@@ -19,6 +20,7 @@ use Rattle.verdict.proofs.JudgeExact.{same-place}
 use Rattle.answers.proofs.Passing.{Common}
 use Rattle.history.proofs.Refusals.{Passed, refusal-none, accepted-passed, accepted-images, sized}
 use Rattle.history.proofs.Sector.{on-store, on-store-other, lands, storeAll, sectorAfter, AllPlain, writes-plain, keeps}
+use Rattle.history.specs.History.{own}
 
 -- ---- writing to a sector
 
@@ -81,7 +83,7 @@ module _ (s n i : ℕ) (lt : i < n) where
 
 -- ---- a call, finished or cut
 
-module _ (seals : Key → Scheme) (v : Triple) (a : Args) (c : Call) where
+module _ (seals : Schemes) (v : Triple) (a : Args) (c : Call) where
   -- the images that it leaves if it is not refused
   abbrev pub accepted : Fate → Triple
   accepted f = landed seals (lands f) v a c
@@ -104,17 +106,21 @@ module _ (seals : Key → Scheme) (v : Triple) (a : Args) (c : Call) where
   leaves-refused finished k e = after-refused k e
   leaves-refused (cut t) k e = ap (λ (r : Option ℕ). unless r v (accepted (cut t))) e
 
-module _ (seals : Key → Scheme) (v : Triple) (a : Args) (c : Call) (f : Fate) (w : Triple) where
+module _ (seals : Schemes) (v : Triple) (a : Args) (c : Call) (f : Fate) (w : Triple) where
   -- what the call, with its own key, s and n, leaves: the other sectors as they were, its own, and images w of the same lengths
   pub record Left : Type 0 where
     pub others : (j : ℕ) → (j ≡ a .number → ⊥) → sectorOf (a .volume .size) j w ≡ sectorOf (a .volume .size) j v
     pub mine : sector w a ≡ sectorAfter (a .volume .size) (sealing seals a) (a .number) (sector v a) c f
     pub images : Images (a .volume .size) (a .volume .count) w
 
-module _ (seals : Key → Scheme) (sound : Sound seals) where
+-- lawful for every volume with a key and a size that a call accepts
+abbrev pub AllLawful : Schemes → Type 0
+AllLawful seals = (vol : Volume) → isKey (vol .key) ≡ true → isSize (vol .size) ≡ true → Lawful (vol .size) (own seals vol)
+
+module _ (seals : Schemes) (sound : AllLawful seals) where
   -- a call that passes the early checks has a lawful sealing
   pub passed-lawful : (v : Triple) (a : Args) → Common v (a .volume) → Lawful (a .volume .size) (sealing seals a)
-  passed-lawful v a p = sound .lawful (a .volume .key) (a .volume .size) (p .key) (p .size)
+  passed-lawful v a p = sound (a .volume) (p .key) (p .size)
 
   module _ (v : Triple) (b : AnyBytes v) (a : Args) (c : Call) (f : Fate) (lent : LentBytes c) (cuts : CutOf (a .volume .size) f) (e : refusal seals v a c ≡ none) where
     passed : Passed v a c

@@ -18,7 +18,7 @@ use Rattle.verdict.proofs.Numbers.{outcome-number, number-whole, number-doubtfu
 use Rattle.history.specs.Answers.{isWhole}
 use Rattle.history.specs.HistoryFrom.{AnyBytes}
 use Rattle.history.specs.Meaning.{Passes, Is, FitsAt, sealedIn, CallMeans, CallsMean}
-use Rattle.history.specs.Volume.{Call, blank, first, second, third, mend, read, sector, mirror, outcome, readOutcome}
+use Rattle.history.specs.Volume.{Call, blank, first, second, third, mend, read, sector, mirror, outcome, readOutcome, sealing}
 use Rattle.history.proofs.Demand3.{mirror-sound}
 use Rattle.history.proofs.Images.{sector-images, passed-lawful}
 use Rattle.history.proofs.Outcomes.{mended, outcome-early, outcome-read, outcome-late, outcome-stage, outcome-mend, read-early, read-late}
@@ -36,7 +36,7 @@ mended-number S s i v clashing = refl
 
 module _ (v : Triple) (b : AnyBytes v) (a : Args) where
   abbrev S : Scheme
-  S = mirror (a .volume .key)
+  S = sealing mirror a
 
   abbrev verdict : Verdict
   verdict = judge S (a .number) (sector v a)

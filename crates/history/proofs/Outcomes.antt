@@ -5,14 +5,14 @@ use mathlib.Core.List.{List, [], _∷_}
 use mathlib.Core.Option.{Option, none, some}
 use Prim.Native.Nat.{ℕ}
 use lib.ListN.{length}
-use Rattle.mode.specs.Sealing.{Triple, Key}
+use Rattle.mode.specs.Sealing.{Triple}
 use Rattle.mode.specs.Scheme.{on, Scheme}
 use Rattle.answers.specs.Answers.{foundNumber}
 use Rattle.answers.specs.Rules.{rule, firstOf, settle, Args}
 use Rattle.verdict.specs.Judging.{verdictRefusal, verdictDoubt, verdictPlain, verdictOutcome}
 use Rattle.verdict.specs.Verdict.{Verdict, whole, doubtful, lost, clashing, judge}
 use Rattle.history.specs.Answers.{Answer, done, gives, reply, answerNumber, output}
-use Rattle.history.specs.Volume.{writeAll, Call, mend, read, judgeRules, early, late, mends, result, unless, sector, sealing, refusal, answer, after, outcome, readOutcome}
+use Rattle.history.specs.Volume.{writeAll, Call, mend, read, judgeRules, early, late, mends, result, unless, sector, sealing, refusal, answer, after, outcome, readOutcome, Schemes}
 use Rattle.history.specs.Power.{finished}
 use Rattle.history.proofs.Refusals.{refusal-late, refusal-early, answer-refused, answer-late, early-answer}
 use Rattle.history.proofs.Images.{accepted, after-refused}
@@ -30,7 +30,7 @@ read-by (doubtful d P) out = refl
 read-by lost out = refl
 read-by clashing out = refl
 
-module _ (seals : Key → Scheme) (v : Triple) (a : Args) where
+module _ (seals : Schemes) (v : Triple) (a : Args) where
   -- ---- refused
 
   outcome-refused : (c : Call) {n : ℕ} → refusal seals v a c ≡ some n → outcome seals v a c ≡ (n, v)

@@ -6,8 +6,8 @@ use mathlib.Core.Option.{Option, none, some}
 use Prim.Native.Nat.{ℕ, _<_}
 use native.Mathlib.Omega.{arith}
 use Rattle.block.specs.Bytes.{same}
-use Rattle.mode.specs.Sealing.{Triple, Key}
-use Rattle.mode.specs.Scheme.{Place, local, tag, Scheme, Sector, Lawful, Sound}
+use Rattle.mode.specs.Sealing.{Triple}
+use Rattle.mode.specs.Scheme.{Place, local, tag, Scheme, Sector, Lawful}
 use Rattle.verdict.specs.Verdict.{Fits, FitsTwo, Verdict, whole, doubtful, lost, clashing, Means, fits, judge}
 use lib.ListN.{length}
 use Rattle.answers.specs.Answers.{doubtNumber, foundNumber}
@@ -15,7 +15,7 @@ use Rattle.answers.specs.Rules.{firstOf, Args, Volume}
 use Rattle.verdict.specs.Judging.{verdictDoubt, verdictOutcome, verdictNumber}
 use Rattle.verdict.proofs.Numbers.{outcome-number, number-lost}
 use Rattle.history.specs.Answers.{Answer, done, found, reply, isWhole, answerNumber}
-use Rattle.history.specs.Volume.{Call, blank, first, second, third, mend, read, judgeRules, late, result, sector, sealing, refusal, answer, after, outcome, readOutcome}
+use Rattle.history.specs.Volume.{Call, blank, first, second, third, mend, read, judgeRules, late, result, sector, sealing, refusal, answer, after, outcome, readOutcome, Schemes}
 use Rattle.history.specs.Machine.{Held, gone, kept, State}
 use Rattle.history.specs.Power.{Images}
 use Rattle.history.specs.History.{Proper, ProperRead, at, own, Sure, Reads, clashes, fits-too, fits-not, Unsure, Found, Promise, Promised}
@@ -24,7 +24,7 @@ use Rattle.block.proofs.Lists.{same-eq, ne-same}
 use Rattle.verdict.proofs.JudgeExact.{one-for-all, judge-means}
 use Rattle.history.proofs.Refusals.{passed, refusal-late, answer-late}
 use Rattle.history.proofs.Sector.{some-inj, agree-two, agree-doubtful, judge-sure, whole-accepted}
-use Rattle.history.proofs.Images.{any-bytes, sector-images, passed-lawful, first-landed}
+use Rattle.history.proofs.Images.{any-bytes, sector-images, passed-lawful, first-landed, AllLawful}
 use Rattle.history.proofs.Outcomes.{read-late}
 use Rattle.history.proofs.Events.{argsOf, takes-args, call-others}
 
@@ -39,7 +39,7 @@ number-by clashing r e = refl
 
 -- ---- proper calls
 
-module _ (seals : Key → Scheme) (vol : Volume) (v : Triple) (i : ℕ) (a : Args) where
+module _ (seals : Schemes) (vol : Volume) (v : Triple) (i : ℕ) (a : Args) where
   proper-args : (c : Call) → Proper vol v i a c → a ≡ argsOf vol i
   proper-args c p = takes-args vol a (p .takes) ∙ ap (argsOf vol) (p .names)
 
@@ -65,11 +65,11 @@ module _ (seals : Key → Scheme) (vol : Volume) (v : Triple) (i : ℕ) (a : Arg
   mend-number : Proper vol v i a mend → outcome seals v a mend .0 ≡ verdictNumber (judge (own seals vol) i (at vol v i))
   mend-number p = call-number mend p ∙ number-by (judge (own seals vol) i (at vol v i)) (found (verdictDoubt (judge (own seals vol) i (at vol v i)))) refl
 
-read-number : (seals : Key → Scheme) (vol : Volume) (v : Triple) (i : ℕ) (a : Args) (out : List ℕ) → ProperRead vol v i a out → readOutcome seals v a out .0 ≡ verdictNumber (judge (own seals vol) i (at vol v i))
+read-number : (seals : Schemes) (vol : Volume) (v : Triple) (i : ℕ) (a : Args) (out : List ℕ) → ProperRead vol v i a out → readOutcome seals v a out .0 ≡ verdictNumber (judge (own seals vol) i (at vol v i))
 read-number seals vol v i a out p = ap (λ (r : ℕ × List ℕ). r .0) (read-answer seals vol v i a out p) ∙ outcome-number (judge (own seals vol) i (at vol v i)) out
 
 -- a read and a mend of one sector answer the same number
-mend-as-read : (seals : Key → Scheme) (vol : Volume) (v : Triple) (i : ℕ) (a b : Args) (out : List ℕ) → ProperRead vol v i a out → Proper vol v i b mend → readOutcome seals v a out .0 ≡ outcome seals v b mend .0
+mend-as-read : (seals : Schemes) (vol : Volume) (v : Triple) (i : ℕ) (a b : Args) (out : List ℕ) → ProperRead vol v i a out → Proper vol v i b mend → readOutcome seals v a out .0 ≡ outcome seals v b mend .0
 mend-as-read seals vol v i a b out p q = read-number seals vol v i a out p ∙ sym (mend-number seals vol v i b q)
 
 -- ---- refusal 6
@@ -89,7 +89,7 @@ call-6 S i t (read o) e = number-lost (judge S i t) (sym (number-by (judge S i t
 
 -- ---- one sector
 
-module _ (seals : Key → Scheme) (sound : Sound seals) (vol : Volume) (v : Triple) (I : Images (vol .size) (vol .count) v) (i : ℕ) (lt : i < vol .count) where
+module _ (seals : Schemes) (sound : AllLawful seals) (vol : Volume) (v : Triple) (I : Images (vol .size) (vol .count) v) (i : ℕ) (lt : i < vol .count) where
   here : Sector (vol .size) (at vol v i)
   here = sector-images (vol .size) (vol .count) i lt v I
 
@@ -169,7 +169,7 @@ module _ (seals : Key → Scheme) (sound : Sound seals) (vol : Volume) (v : Trip
 
 -- ---- all sectors
 
-module _ (seals : Key → Scheme) (sound : Sound seals) (vol : Volume) (v : Triple) (h : State) where
+module _ (seals : Schemes) (sound : AllLawful seals) (vol : Volume) (v : Triple) (h : State) where
   -- what is promised of all sectors, from what is promised of each
   pub promised-by : AnyBytes v → ((i : ℕ) → i < vol .count → Promise seals vol v i (h i)) → Promised seals vol v h
   promised-by b held = record { held = held; mend-7 = λ i a b out p q. (λ e. sym (mend-as-read seals vol v i a b out p q) ∙ e, λ e. mend-as-read seals vol v i a b out p q ∙ e); others = call-others seals sound vol v b }

@@ -10,11 +10,11 @@ use lib.Dec.{leb}
 use lib.ListN.{length}
 use borrow.Author.Tests.{leb-false}
 use Rattle.block.specs.Bytes.{Plain}
-use Rattle.mode.specs.Sealing.{Triple, Key}
-use Rattle.mode.specs.Scheme.{local, tag, Scheme}
+use Rattle.mode.specs.Sealing.{Triple}
+use Rattle.mode.specs.Scheme.{local, tag}
 use Rattle.answers.specs.Rules.{numberRules, Rule, firstOf, Args, isShape, volumeRules, sectorRules}
 use Rattle.history.specs.Answers.{refused, reply}
-use Rattle.history.specs.Volume.{Call, blank, first, second, third, mend, read, lengths, early, late, result, sector, sealing, refusal, answer}
+use Rattle.history.specs.Volume.{Call, blank, first, second, third, mend, read, lengths, early, late, result, sector, sealing, refusal, answer, Schemes}
 use Rattle.history.specs.Power.{Images, LentBytes}
 use Rattle.history.specs.HistoryFrom.{AnyBytes}
 use Rattle.answers.proofs.Rules.{only-rule, first-none, first-some, none-left, none-right}
@@ -32,7 +32,7 @@ pub record Passed (v : Triple) (a : Args) (c : Call) : Type 0 where
 pub passed : (v : Triple) (a : Args) (c : Call) → firstOf (early v a c) ≡ none → Passed v a c
 unfolding early
 passed v a c e =
-    let every : List Rule = volumeRules (a .volume) (isShape (a .volume .size) (a .volume .count) v) in
+    let every : List Rule = volumeRules (a .volume .key) (a .volume .size) (isShape (a .volume .size) (a .volume .count) v) in
     let nine : List Rule = numberRules (a .volume .count) (a .number) in
     let e′ : firstOf (every ++ nine) ≡ none = none-left (lengths a c) (every ++ nine) e in
     record {
@@ -44,7 +44,7 @@ passed v a c e =
 pub passes-early : (v : Triple) (a : Args) (c : Call) → Passed v a c → firstOf (early v a c) ≡ none
 unfolding early
 passes-early v a c p =
-    first-none (lengths a c) (sectorRules (isShape (a .volume .size) (a .volume .count) v) a) (sector-pass v a (p .common) (p .number)) ∙ p .lengths
+    first-none (lengths a c) (sectorRules (a .volume .key) (a .volume .size) (a .volume .count) (isShape (a .volume .size) (a .volume .count) v) (a .number)) (sector-pass v a (p .common) (p .number)) ∙ p .lengths
 
 -- a stage's plaintext is s bytes
 abbrev pub Sized : ℕ → Call → Type 0
@@ -79,7 +79,7 @@ forced s n v I s′ n′ e =
 
 -- ---- refusals and answers
 
-module _ (seals : Key → Scheme) (v : Triple) (a : Args) (c : Call) where
+module _ (seals : Schemes) (v : Triple) (a : Args) (c : Call) where
   pub refusal-none : refusal seals v a c ≡ none → (firstOf (early v a c) ≡ none) × (firstOf (late (sealing seals a) (a .number) (sector v a) c) ≡ none)
   unfolding refusal
   refusal-none e =

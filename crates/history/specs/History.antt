@@ -7,12 +7,12 @@ use mathlib.Core.Option.{none, some}
 use Prim.Native.Nat.{ℕ, _<_}
 use lib.ListN.{length}
 use Rattle.block.specs.Bytes.{Plain}
-use Rattle.mode.specs.Sealing.{Triple, Key}
+use Rattle.mode.specs.Sealing.{Triple}
 use Rattle.mode.specs.Scheme.{Place, local, Scheme}
 use Rattle.verdict.specs.Verdict.{Fits, FitsTwo, Means, lost}
 use Rattle.answers.specs.Answers.{doubtNumber}
 use Rattle.answers.specs.Rules.{firstOf, Args, Volume}
-use Rattle.history.specs.Volume.{Call, first, mend, read, sectorOf, early, outcome, readOutcome, mirror}
+use Rattle.history.specs.Volume.{Call, first, mend, read, sectorOf, early, outcome, readOutcome, mirror, Schemes}
 use Rattle.history.specs.Machine.{Held, gone, kept, State, start}
 use Rattle.history.specs.Power.{Fate, Event, call, Images, LentBytes, leavesCall, Allowed, AllAllowed, run, hold}
 
@@ -31,7 +31,7 @@ ProperRead vol v i a out = Proper vol v i a (read (length out))
 abbrev pub at : Volume → Triple → ℕ → Triple
 at vol v i = sectorOf (vol .size) i v
 
-module _ (seals : Key → Scheme) (vol : Volume) where
+module _ (seals : Schemes) (vol : Volume) where
   -- the volume's sealing
   abbrev pub own : Scheme
   own = seals (vol .key)

@@ -4,10 +4,10 @@ use mathlib.Core.List.{List}
 use mathlib.Core.Option.{some}
 use Prim.Native.Nat.{ℕ, _<_}
 use Rattle.block.specs.Bytes.{Bytes, Plain}
-use Rattle.mode.specs.Sealing.{Triple, Key}
+use Rattle.mode.specs.Sealing.{Triple}
 use Rattle.mode.specs.Scheme.{Place, on, Scheme}
 use Rattle.verdict.specs.Verdict.{Fits}
-use Rattle.history.specs.Volume.{mirror}
+use Rattle.history.specs.Volume.{mirror, Schemes}
 use Rattle.history.specs.Machine.{Held, gone, kept, State, start}
 use Rattle.answers.specs.Rules.{Volume}
 use Rattle.history.specs.Power.{Event, Images, AllAllowed, run, hold}
@@ -22,7 +22,7 @@ Agree s S i t (kept P d) = Plain s P × ((p : Place) → (d ≡ some p → ⊥) 
 abbrev pub AnyBytes : Triple → Type 0
 AnyBytes v = (p : Place) → Bytes (on v p)
 
-module _ (seals : Key → Scheme) where
+module _ (seals : Schemes) where
   -- a state that agrees with the images
   pub record Agrees (vol : Volume) (v : Triple) (h : State) : Type 0 where
     pub images : Images (vol .size) (vol .count) v

@@ -12,7 +12,7 @@ use Rattle.mode.specs.Scheme.{Place, local, tag, remote, on}
 use Rattle.verdict.specs.Verdict.{Fits, Verdict, whole, doubtful, lost, clashing, Means}
 use Rattle.answers.specs.Answers.{doubtNumber}
 use Rattle.answers.specs.Rules.{firstOf, Args}
-use Rattle.history.specs.Volume.{Call, blank, first, second, third, mend, read, write, writeAll, early, sector, mirror, outcome, readOutcome}
+use Rattle.history.specs.Volume.{Call, blank, first, second, third, mend, read, write, writeAll, early, sector, mirror, outcome, readOutcome, sealing}
 use Rattle.history.specs.HistoryFrom.{AnyBytes}
 
 module _ (v : Triple) (a : Args) where
@@ -22,19 +22,19 @@ module _ (v : Triple) (a : Args) where
 
   -- the sector has this verdict, by fitting
   abbrev pub Is : Verdict → Type 0
-  Is w = Means (a .volume .size) (mirror (a .volume .key)) (a .number) (sector v a) w
+  Is w = Means (a .volume .size) (sealing mirror a) (a .number) (sector v a) w
 
   -- P fits a place of it
   abbrev pub FitsAt : Place → List ℕ → Type 0
-  FitsAt p P = Fits (mirror (a .volume .key)) (a .number) (sector v a) p P
+  FitsAt p P = Fits (sealing mirror a) (a .number) (sector v a) p P
 
   -- the images with a place of it as P seals
   abbrev pub sealedIn : Place → List ℕ → Triple
-  sealedIn p P = write (a .volume .size) (a .number) p (on (mirror (a .volume .key) .sealed (a .number) P) p) v
+  sealedIn p P = write (a .volume .size) (a .number) p (on (sealing mirror a .sealed (a .number) P) p) v
 
   -- and with all three
   abbrev pub sealedAll : List ℕ → Triple
-  sealedAll P = writeAll (a .volume .size) (a .number) (on (mirror (a .volume .key) .sealed (a .number) P)) (local ∷ tag ∷ remote ∷ []) v
+  sealedAll P = writeAll (a .volume .size) (a .number) (on (sealing mirror a .sealed (a .number) P)) (local ∷ tag ∷ remote ∷ []) v
 
   pub record CallMeans : Type 0 where
     -- the refusals before 6 and 10: the number, and every lent byte as it was

@@ -6,11 +6,11 @@ use mathlib.Core.List.{List, [], _∷_}
 use mathlib.Core.Option.{Option, none, some}
 use Prim.Native.Nat.{ℕ, _<_, _*_}
 use Rattle.block.specs.Bytes.{Bytes, Plain}
-use Rattle.mode.specs.Sealing.{Triple, Key}
+use Rattle.mode.specs.Sealing.{Triple}
 use Rattle.mode.specs.Scheme.{Place, local, tag, remote, on, wide, Scheme}
 use Rattle.verdict.specs.Verdict.{fits}
 use Rattle.answers.specs.Rules.{Args, Volume}
-use Rattle.history.specs.Volume.{Call, blank, first, second, third, mend, read, write, unless, sector, sealing, refusal, landed, after}
+use Rattle.history.specs.Volume.{Call, blank, first, second, third, mend, read, write, unless, sector, sealing, refusal, landed, after, Schemes}
 use Rattle.history.specs.Machine.{Told, toldFinished, toldCut, Seen, called, damaged, State, machine}
 
 -- three images of n times s, n times 16 and n times s bytes
@@ -76,7 +76,7 @@ told S i t c (cut k) = toldCut (tagTold S i t c)
 
 -- ---- lists of events
 
-module _ (seals : Key → Scheme) where
+module _ (seals : Schemes) where
   -- The images after a call with this fate: a finished one leaves what the call does; one that is or would be refused leaves them as they
   -- were.
   unfoldable pub leavesCall : Triple → Args → Call → Fate → Triple

@@ -13,6 +13,10 @@ use Rattle.verdict.specs.Judging.{verdictRefusal, verdictDoubt, verdictPlain}
 use Rattle.answers.specs.Rules.{Rule, rule, firstOf, rulesOf, Args, lengthRules, sectorRules, isShape}
 use Rattle.history.specs.Answers.{Answer, done, gives, found, reply, isWhole, answerNumber, output}
 
+-- what seals the sectors of volumes: a scheme for each key
+abbrev pub Schemes : Type 0
+Schemes = Key → Scheme
+
 -- ---- three images
 
 -- the three places of sector i, its parts of the three images
@@ -55,7 +59,7 @@ lengths a (read o) = lengthRules o (a .volume .size)
 
 -- all that comes before 6 (read, mend) or 10 (a stage)
 unfoldable pub early : Triple → Args → Call → List Rule
-early v a c = sectorRules (isShape (a .volume .size) (a .volume .count) v) a ++ lengths a c
+early v a c = sectorRules (a .volume .key) (a .volume .size) (a .volume .count) (isShape (a .volume .size) (a .volume .count) v) (a .number) ++ lengths a c
 
 -- the refusal of judging, if it refuses
 abbrev pub judgeRules : Verdict → List Rule
@@ -122,7 +126,7 @@ unless (some k) before after = before
 abbrev pub sector : Triple → Args → Triple
 sector v a = sectorOf (a .volume .size) (a .number) v
 
-module _ (seals : Key → Scheme) where
+module _ (seals : Schemes) where
   -- the sealing that a call uses
   abbrev pub sealing : Args → Scheme
   sealing a = seals (a .volume .key)
@@ -154,5 +158,5 @@ module _ (seals : Key → Scheme) where
   readOutcome v a out = let r = answer v a (read (length out)) in (answerNumber r, output r out)
 
 -- the mode, with a sector's number for its address
-unfoldable pub mirror : Key → Scheme
+unfoldable pub mirror : Schemes
 mirror k = record { sealed = sealed k; openLocal = scheme k .openLocal; openRemote = scheme k .openRemote }

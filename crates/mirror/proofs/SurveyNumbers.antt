@@ -8,8 +8,8 @@ use native.Mathlib.Omega.{arith}
 use lib.Dec.{ltb}
 use lib.ListN.{length}
 use Rattle.mode.specs.Scheme.{isKey, isSize}
-use Rattle.mode.specs.Sealing.{Triple, Key}
-use Rattle.answers.specs.Rules.{rule, firstOf, isShape}
+use Rattle.mode.specs.Sealing.{Triple}
+use Rattle.answers.specs.Rules.{rule, firstOf, isShape, Volume}
 use Rattle.verdict.specs.Verdict.{Verdict}
 use Rattle.history.specs.Answers.{isWhole}
 use Rattle.history.specs.HistoryFrom.{AnyBytes}
@@ -18,6 +18,7 @@ use Rattle.report.specs.declared.Counts.{Counts}
 use Rattle.report.specs.Survey.{tally, health, countsOf, written, Report, refused, verdictAt, surveyed, surveyRefusal, surveyOutcome, ByFitting}
 use Rattle.report.proofs.SurveyFacts.{survey-facts}
 use Rattle.mirror.specs.Survey.{surveyResult, SurveyNumbers}
+use Rattle.history.specs.History.{own}
 
 -- no refusal of a survey has the number 0
 not-zero : (a b c d : Bool) → firstOf (rule 1 a ∷ rule 2 b ∷ rule 8 c ∷ rule 11 d ∷ []) ≡ some 0 → ⊥
@@ -27,32 +28,32 @@ not-zero false false true d e = let z : _≡_ {A = ℕ} 8 0 = cc in omega arith
 not-zero false false false true e = let z : _≡_ {A = ℕ} 11 0 = cc in omega arith
 not-zero false false false false e = let z : _≡_ {A = ℕ} 0 1 = cc in omega arith
 
-by-fitting : (v : Triple) → AnyBytes v → (k : Key) (s n : ℕ) (list before five after : List ℕ)
-    → surveyResult (surveyOutcome v k s n list) before ≡ (0, (five, after))
-    → (c : Counts) × (five ≡ c .whole ∷ c .doubtful ∷ c .clashing ∷ c .lost ∷ c .health ∷ []) × ByFitting k s n v list c after
-by-fitting v bytes k s n list before five after e = go (surveyRefusal v k s n (length list)) refl
+by-fitting : (v : Triple) → AnyBytes v → (vol : Volume) (list before five after : List ℕ)
+    → surveyResult (surveyOutcome v vol list) before ≡ (0, (five, after))
+    → (c : Counts) × (five ≡ c .whole ∷ c .doubtful ∷ c .clashing ∷ c .lost ∷ c .health ∷ []) × ByFitting vol v list c after
+by-fitting v bytes vol list before five after e = go (surveyRefusal v vol (length list)) refl
   where
     w : ℕ → Verdict
-    w = verdictAt (mirror k) s v
+    w = verdictAt (own mirror vol) (vol .size) v
 
     c : Counts
-    c = countsOf w n (health (tally isWhole w n) n)
+    c = countsOf w (vol .count) (health (tally isWhole w (vol .count)) (vol .count))
 
-    go : (o : Option ℕ) → surveyRefusal v k s n (length list) ≡ o → (c : Counts) × (five ≡ c .whole ∷ c .doubtful ∷ c .clashing ∷ c .lost ∷ c .health ∷ []) × ByFitting k s n v list c after
+    go : (o : Option ℕ) → surveyRefusal v vol (length list) ≡ o → (c : Counts) × (five ≡ c .whole ∷ c .doubtful ∷ c .clashing ∷ c .lost ∷ c .health ∷ []) × ByFitting vol v list c after
     go none d =
-        let a : surveyOutcome v k s n list ≡ surveyed w n list = survey-facts .answers v k s n list d in
-        let r : surveyResult (surveyed w n list) before ≡ (0, (five, after)) = ap (λ (x : Report × List ℕ). surveyResult x before) (sym a) ∙ e in (
+        let a : surveyOutcome v vol list ≡ surveyed w (vol .count) list = survey-facts .answers v vol list d in
+        let r : surveyResult (surveyed w (vol .count) list) before ≡ (0, (five, after)) = ap (λ (x : Report × List ℕ). surveyResult x before) (sym a) ∙ e in (
           c,
           ap (λ (x : ℕ × (List ℕ × List ℕ)). x .1 .0) (sym r),
-          subst (λ (l : List ℕ). ByFitting k s n v list c l) (ap (λ (x : ℕ × (List ℕ × List ℕ)). x .1 .1) r) (survey-facts .by-fitting v bytes k s n list c (written w n list) a),
+          subst (λ (l : List ℕ). ByFitting vol v list c l) (ap (λ (x : ℕ × (List ℕ × List ℕ)). x .1 .1) r) (survey-facts .by-fitting v bytes vol list c (written w (vol .count) list) a),
         )
     go (some m) d =
-        let r : surveyResult (refused m, list) before ≡ (0, (five, after)) = ap (λ (x : Report × List ℕ). surveyResult x before) (sym (survey-facts .refuses v k s n list m d)) ∙ e in
-        absurd (not-zero (not (isKey k)) (not (isSize s)) (not (isShape s n v)) (ltb (length list) n) (d ∙ ap some (ap (λ (x : ℕ × (List ℕ × List ℕ)). x .0) r)))
+        let r : surveyResult (refused m, list) before ≡ (0, (five, after)) = ap (λ (x : Report × List ℕ). surveyResult x before) (sym (survey-facts .refuses v vol list m d)) ∙ e in
+        absurd (not-zero (not (isKey (vol .key))) (not (isSize (vol .size))) (not (isShape (vol .size) (vol .count) v)) (ltb (length list) (vol .count)) (d ∙ ap some (ap (λ (x : ℕ × (List ℕ × List ℕ)). x .0) r)))
 
 pub survey-numbers : SurveyNumbers
 survey-numbers = record {
-  refuses = λ v k s n list before m e. ap (λ (x : Report × List ℕ). surveyResult x before) (survey-facts .refuses v k s n list m e);
-  answers = λ v k s n list before e. ap (λ (x : Report × List ℕ). surveyResult x before .0) (survey-facts .answers v k s n list e);
+  refuses = λ v vol list before m e. ap (λ (x : Report × List ℕ). surveyResult x before) (survey-facts .refuses v vol list m e);
+  answers = λ v vol list before e. ap (λ (x : Report × List ℕ). surveyResult x before .0) (survey-facts .answers v vol list e);
   by-fitting = by-fitting;
 }

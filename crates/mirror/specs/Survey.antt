@@ -5,10 +5,11 @@ use mathlib.Core.List.{List, [], _∷_}
 use mathlib.Core.Option.{none, some}
 use Prim.Native.Nat.{ℕ}
 use lib.ListN.{length}
-use Rattle.mode.specs.Sealing.{Triple, Key}
+use Rattle.mode.specs.Sealing.{Triple}
 use Rattle.history.specs.HistoryFrom.{AnyBytes}
 use Rattle.report.specs.declared.Counts.{Counts}
 use Rattle.report.specs.Survey.{Report, refused, counted, surveyRefusal, surveyOutcome, ByFitting}
+use Rattle.answers.specs.Rules.{Volume}
 
 abbrev pub numbers : Counts → List ℕ
 numbers c = c .whole ∷ c .doubtful ∷ c .clashing ∷ c .lost ∷ c .health ∷ []
@@ -20,12 +21,12 @@ surveyResult (counted c, list) before = (0, (numbers c, list))
 
 pub record SurveyNumbers : Type 0 where
   -- a refused survey gives its number, and leaves the five and the list
-  pub refuses : (v : Triple) (k : Key) (s n : ℕ) (list before : List ℕ) (m : ℕ) → surveyRefusal v k s n (length list) ≡ some m
-      → surveyResult (surveyOutcome v k s n list) before ≡ (m, (before, list))
+  pub refuses : (v : Triple) (vol : Volume) (list before : List ℕ) (m : ℕ) → surveyRefusal v vol (length list) ≡ some m
+      → surveyResult (surveyOutcome v vol list) before ≡ (m, (before, list))
   -- any other gives 0,
-  pub answers : (v : Triple) (k : Key) (s n : ℕ) (list before : List ℕ) → surveyRefusal v k s n (length list) ≡ none
-      → surveyResult (surveyOutcome v k s n list) before .0 ≡ 0
+  pub answers : (v : Triple) (vol : Volume) (list before : List ℕ) → surveyRefusal v vol (length list) ≡ none
+      → surveyResult (surveyOutcome v vol list) before .0 ≡ 0
   -- and where the number is 0, the five are those of the sectors by fitting, in this order, and so is the list
-  pub by-fitting : (v : Triple) → AnyBytes v → (k : Key) (s n : ℕ) (list before five after : List ℕ)
-      → surveyResult (surveyOutcome v k s n list) before ≡ (0, (five, after))
-      → (c : Counts) × (five ≡ c .whole ∷ c .doubtful ∷ c .clashing ∷ c .lost ∷ c .health ∷ []) × ByFitting k s n v list c after
+  pub by-fitting : (v : Triple) → AnyBytes v → (vol : Volume) (list before five after : List ℕ)
+      → surveyResult (surveyOutcome v vol list) before ≡ (0, (five, after))
+      → (c : Counts) × (five ≡ c .whole ∷ c .doubtful ∷ c .clashing ∷ c .lost ∷ c .health ∷ []) × ByFitting vol v list c after

@@ -7,7 +7,7 @@ use report::Surveyed;
 ghost use mathlib.Core.Path.{_≡_};
 ghost use Rattle.mode.specs.Sealing.{keyFrom, triple};
 ghost use Rattle.answers.specs.Answers.{doneNumber, judgedNumber};
-ghost use Rattle.answers.specs.Rules.{args};
+ghost use Rattle.answers.specs.Rules.{args, volumeOf};
 ghost use Rattle.sector.specs.Calls.{sealCall, judgeCall, openCall, rebuildCall, combineCall};
 ghost use Rattle.history.specs.Volume.{mirror, outcome, readOutcome};
 ghost use Rattle.history.specs.Volume as W;
@@ -216,7 +216,7 @@ pub extern "C" fn mirror_survey(
     list: &mut [u32],
     counts: &mut [u64; 5],
 ) -> u32
-    ensures { λ r. ⌜ surveyResult (surveyOutcome (triple (now (local .entry)) (now (tags .entry)) (now (remote .entry))) (keyFrom (now (key .entry))) s n (now (list .entry))) (now (counts .entry)) ≡ (r, (now (counts .exit), now (list .exit))) ⌝ }
+    ensures { λ r. ⌜ surveyResult (surveyOutcome (triple (now (local .entry)) (now (tags .entry)) (now (remote .entry))) (volumeOf (keyFrom (now (key .entry))) s n) (now (list .entry))) (now (counts .entry)) ≡ (r, (now (counts .exit), now (list .exit))) ⌝ }
 {
     let surveyed = survey::survey(key, s, n, local, tags, remote, list);
     match surveyed {

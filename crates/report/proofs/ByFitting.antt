@@ -12,8 +12,8 @@ use lib.ListN.{length}
 use borrow.Author.Tests.{eq-eqb, eqb-true}
 use Rattle.block.proofs.Lists.{false-true}
 use Rattle.mode.specs.Scheme.{Place, isKey, isSize, Scheme, Sector}
-use Rattle.mode.specs.Sealing.{Triple, Key}
-use Rattle.answers.specs.Rules.{settleBy, volume, isShape}
+use Rattle.mode.specs.Sealing.{Triple}
+use Rattle.answers.specs.Rules.{settleBy, isShape, Volume}
 use Rattle.verdict.specs.Verdict.{Verdict, whole, doubtful, lost, clashing, Means, judge, JudgeExact}
 use Rattle.verdict.proofs.JudgeExact.{judge-exact}
 use Rattle.history.specs.Answers.{isWhole, isDoubtful, isClashing, isLost}
@@ -29,6 +29,7 @@ use Rattle.report.specs.Survey.{numbers, tally, listed, health, countsOf
 use Rattle.report.proofs.Orders.{lists-map, Earlier, earlier-asym, Ranked, rank-lists, ranks-append}
 use Rattle.report.proofs.Once.{one-list, entries-apart}
 use Rattle.report.proofs.Tallies.{chosen-lists, all-counted, health-most, health-full}
+use Rattle.history.specs.History.{own}
 
 -- ---- one sector
 
@@ -99,33 +100,42 @@ IsCounted (refused m) = ⊥
 IsCounted (counted c) = Unit {0}
 
 -- what holds of the counts and the list of a survey that passes its checks holds of those that a caller gets
-pub of-outcome : (v : Triple) (k : Key) (s n : ℕ) (list : List ℕ) (Q : Report × List ℕ → Type 0)
-    → (Common v (volume k s n) → Q (surveyed (verdictAt (mirror k) s v) n list))
-    → (c : Counts) (after : List ℕ) → surveyOutcome v k s n list ≡ (counted c, after) → Q (counted c, after)
+pub of-outcome : (v : Triple) (vol : Volume) (list : List ℕ) (Q : Report × List ℕ → Type 0)
+    → (Common v vol → Q (surveyed (verdictAt (own mirror vol) (vol .size) v) (vol .count) list))
+    → (c : Counts) (after : List ℕ) → surveyOutcome v vol list ≡ (counted c, after) → Q (counted c, after)
 unfolding surveyOutcome
-of-outcome v k s n list Q q c after e = go (surveyRefusal v k s n (length list)) refl e
+of-outcome v vol list Q q c after e = go (surveyRefusal v vol (length list)) refl e
   where
-    go : (o : Option ℕ) → surveyRefusal v k s n (length list) ≡ o
-        → settleBy refused o (surveyed (verdictAt (mirror k) s v) n list) list ≡ (counted c, after) → Q (counted c, after)
-    go none d z = subst Q z (q (survey-passed v (volume k s n) (length list) d .0))
+    go : (o : Option ℕ) → surveyRefusal v vol (length list) ≡ o
+        → settleBy refused o (surveyed (verdictAt (own mirror vol) (vol .size) v) (vol .count) list) list ≡ (counted c, after) → Q (counted c, after)
+    go none d z = subst Q z (q (survey-passed v vol (length list) d .0))
     go (some m) d z = absurd (subst (λ (x : Report × List ℕ). IsCounted (x .0)) (sym z) tt)
 
-module _ (v : Triple) (bytes : AnyBytes v) (k : Key) (s n : ℕ) (o : Common v (volume k s n)) where
-  w : ℕ → Verdict
-  w = verdictAt (mirror k) s v
+module _ (v : Triple) (bytes : AnyBytes v) (vol : Volume) (o : Common v vol) where
+  abbrev s : ℕ
+  s = vol .size
 
-  exact : JudgeExact s (mirror k)
-  exact = judge-exact s (mirror k) (mirror-sound .lawful k s (o .key) (o .size))
+  abbrev n : ℕ
+  n = vol .count
+
+  abbrev S : Scheme
+  S = own mirror vol
+
+  w : ℕ → Verdict
+  w = verdictAt S s v
+
+  exact : JudgeExact s S
+  exact = judge-exact s S (mirror-sound vol (o .key) (o .size))
 
   sector-at : (i : ℕ) → i < n → Sector s (sectorOf s i v)
   sector-at i lt = sector-images s n i lt v (shape-images s n v (o .shape) bytes)
 
-  whole-at : (i : ℕ) → i < n → (isWhole (w i) ≡ true) ↔ WholeAt k s v i
+  whole-at : (i : ℕ) → i < n → (isWhole (w i) ≡ true) ↔ WholeAt vol v i
   unfolding w
-  whole-at i lt = tie-whole s (mirror k) exact i (sectorOf s i v) (sector-at i lt)
+  whole-at i lt = tie-whole s S exact i (sectorOf s i v) (sector-at i lt)
 
-  pub lost-at : (i : ℕ) → i < n → (isLost (verdictAt (mirror k) s v i) ≡ true) ↔ LostAt k s v i
-  lost-at i lt = tie-lost s (mirror k) exact i (sectorOf s i v) (sector-at i lt)
+  pub lost-at : (i : ℕ) → i < n → (isLost (verdictAt S s v i) ≡ true) ↔ LostAt vol v i
+  lost-at i lt = tie-lost s S exact i (sectorOf s i v) (sector-at i lt)
 
   many : (P : ℕ → Type 0) (is : Verdict → Bool) → ((i : ℕ) → i < n → (is (w i) ≡ true) ↔ P i) → Many P n (tally is w n)
   unfolding tally
@@ -137,17 +147,17 @@ module _ (v : Triple) (bytes : AnyBytes v) (k : Key) (s n : ℕ) (o : Common v (
   ranks i = rank (w i)
 
   -- a sector has one verdict by fitting, the one that is worked out, so `Before` goes by the rank of that
-  fits-rank : (i : ℕ) → i < n → (a : Verdict) → Fitting k s v a i → ranks i ≡ rank a
+  fits-rank : (i : ℕ) → i < n → (a : Verdict) → Fitting vol v a i → ranks i ≡ rank a
   unfolding w
   fits-rank i lt a m = ap rank (exact i (sectorOf s i v) (sector-at i lt) a .1 m)
 
-  before-earlier : (i j : ℕ) → i < n → j < n → Before k s v i j → Earlier ranks i j
+  before-earlier : (i j : ℕ) → i < n → j < n → Before vol v i j → Earlier ranks i j
   before-earlier i j h l b =
       let x = fits-rank i h (b .first) (b .first-fits) in
       let y = fits-rank j l (b .second) (b .second-fits) in
       ⊎-elim (λ g. inl (omega arith)) (λ g. inr (omega arith, g .1)) (b .graver)
 
-  earlier-before : (i j : ℕ) → i < n → j < n → Earlier ranks i j → Before k s v i j
+  earlier-before : (i j : ℕ) → i < n → j < n → Earlier ranks i j → Before vol v i j
   unfolding w
   earlier-before i j h l e = record {
     first = w i;
@@ -157,7 +167,7 @@ module _ (v : Triple) (bytes : AnyBytes v) (k : Key) (s n : ℕ) (o : Common v (
     graver = e;
   }
 
-  before-asym : (i j : ℕ) → i < n → j < n → Before k s v i j → Before k s v j i → ⊥
+  before-asym : (i j : ℕ) → i < n → j < n → Before vol v i j → Before vol v j i → ⊥
   before-asym i j h l a b = earlier-asym ranks i j (before-earlier i j h l a) (before-earlier j i l h b)
 
   -- the sectors of one kind
@@ -165,18 +175,18 @@ module _ (v : Triple) (bytes : AnyBytes v) (k : Key) (s n : ℕ) (o : Common v (
   kind is r e = rank-lists ranks r n (numbers is w n) (chosen-lists (λ i. ranks i ≡ r) (λ i. is (w i)) n (λ i lt. tie-rank (e (w i))))
 
   -- those that are not whole have the ranks below 3
-  not-whole-rank : (i : ℕ) → i < n → Ranked ranks 0 3 i ↔ (WholeAt k s v i → ⊥)
+  not-whole-rank : (i : ℕ) → i < n → Ranked ranks 0 3 i ↔ (WholeAt vol v i → ⊥)
   not-whole-rank i lt = (λ x a. omega (arith, three .0 (whole-at i lt .1 a)), λ a. (omega arith, go a (decLt (rank (w i)) 3)))
     where
       three : (isWhole (w i) ≡ true) ↔ (rank (w i) ≡ 3)
       three = tie-rank (by-rank (w i) .3)
 
-      go : (WholeAt k s v i → ⊥) → Dec (rank (w i) < 3) → rank (w i) < 3
+      go : (WholeAt vol v i → ⊥) → Dec (rank (w i) < 3) → rank (w i) < 3
       go a (yes d) = d
       go a (no d) = absurd (a (whole-at i lt .0 (three .1 (omega (arith, by-rank (w i) .4)))))
 
   -- the lost, then the clashing, then the doubtful ones
-  listed-lists : Lists (Before k s v) (λ i. WholeAt k s v i → ⊥) n (listed w n)
+  listed-lists : Lists (Before vol v) (λ i. WholeAt vol v i → ⊥) n (listed w n)
   unfolding listed
   listed-lists =
       lists-map (λ i j h l p q. earlier-before i j h l) not-whole-rank
@@ -184,13 +194,13 @@ module _ (v : Triple) (bytes : AnyBytes v) (k : Key) (s n : ℕ) (o : Common v (
       (ranks-append ranks 0 1 2 n _ _ (omega arith) (omega arith) (kind isLost 0 (λ x. by-rank x .0)) (kind isClashing 1 (λ x. by-rank x .1)))
       (kind isDoubtful 2 (λ x. by-rank x .2)))
 
-  accepted-fitting : (list : List ℕ) → ByFitting k s n v list (countsOf (verdictAt (mirror k) s v) n (health (tally isWhole (verdictAt (mirror k) s v) n) n)) (written (verdictAt (mirror k) s v) n list)
+  accepted-fitting : (list : List ℕ) → ByFitting vol v list (countsOf (verdictAt S s v) n (health (tally isWhole (verdictAt S s v) n) n)) (written (verdictAt S s v) n list)
   unfolding w health listed many
   accepted-fitting list = record {
-    whole-count = many (WholeAt k s v) isWhole whole-at;
-    doubtful-count = many (DoubtfulAt k s v) isDoubtful (λ i lt. tie-doubtful s (mirror k) exact i (sectorOf s i v) (sector-at i lt));
-    clashing-count = many (ClashingAt k s v) isClashing (λ i lt. tie-clashing s (mirror k) exact i (sectorOf s i v) (sector-at i lt));
-    lost-count = many (LostAt k s v) isLost lost-at;
+    whole-count = many (WholeAt vol v) isWhole whole-at;
+    doubtful-count = many (DoubtfulAt vol v) isDoubtful (λ i lt. tie-doubtful s S exact i (sectorOf s i v) (sector-at i lt));
+    clashing-count = many (ClashingAt vol v) isClashing (λ i lt. tie-clashing s S exact i (sectorOf s i v) (sector-at i lt));
+    lost-count = many (LostAt vol v) isLost lost-at;
     all-counted = all-counted w n;
     rounded-down = refl;
     health-most = health-most w n;
@@ -200,21 +210,20 @@ module _ (v : Triple) (bytes : AnyBytes v) (k : Key) (s n : ℕ) (o : Common v (
     front = listed w n;
     by-kind = refl;
     not-whole = listed-lists;
-    once = entries-apart (Before k s v) n before-asym (λ i. WholeAt k s v i → ⊥) (listed w n) listed-lists;
+    once = entries-apart (Before vol v) n before-asym (λ i. WholeAt vol v i → ⊥) (listed w n) listed-lists;
     behind = refl;
   }
 
 -- what a caller gets
-abbrev Fitted : Key → ℕ → ℕ → Triple → List ℕ → Report × List ℕ → Type 0
-Fitted k s n v before (refused m, after) = Unit {0}
-Fitted k s n v before (counted c, after) = ByFitting k s n v before c after
+abbrev Fitted : Volume → Triple → List ℕ → Report × List ℕ → Type 0
+Fitted vol v before (refused m, after) = Unit {0}
+Fitted vol v before (counted c, after) = ByFitting vol v before c after
 
-pub by-fitting : (v : Triple) → AnyBytes v → (k : Key) (s n : ℕ) (list : List ℕ) (c : Counts) (after : List ℕ)
-    → surveyOutcome v k s n list ≡ (counted c, after) → ByFitting k s n v list c after
-by-fitting v bytes k s n list c after e =
-    of-outcome v k s n list (Fitted k s n v list) (λ o. accepted-fitting v bytes k s n o list) c after e
+pub by-fitting : (v : Triple) → AnyBytes v → (vol : Volume) (list : List ℕ) (c : Counts) (after : List ℕ)
+    → surveyOutcome v vol list ≡ (counted c, after) → ByFitting vol v list c after
+by-fitting v bytes vol list c after e = of-outcome v vol list (Fitted vol v list) (λ o. accepted-fitting v bytes vol o list) c after e
 
 -- there is one list in repair order
-pub repair-once : (v : Triple) → AnyBytes v → (k : Key) (s n : ℕ) → isKey k ≡ true → isSize s ≡ true → isShape s n v ≡ true
-    → (P : ℕ → Type 0) (l m : List ℕ) → Lists (Before k s v) P n l → Lists (Before k s v) P n m → l ≡ m
-repair-once v bytes k s n ek es eh = one-list (Before k s v) n (before-asym v bytes k s n (record { key = ek; size = es; shape = eh }))
+pub repair-once : (v : Triple) → AnyBytes v → (vol : Volume) → isKey (vol .key) ≡ true → isSize (vol .size) ≡ true → isShape (vol .size) (vol .count) v ≡ true
+    → (P : ℕ → Type 0) (l m : List ℕ) → Lists (Before vol v) P (vol .count) l → Lists (Before vol v) P (vol .count) m → l ≡ m
+repair-once v bytes vol ek es eh = one-list (Before vol v) (vol .count) (before-asym v bytes vol (record { key = ek; size = es; shape = eh }))

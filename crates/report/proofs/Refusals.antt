@@ -6,25 +6,26 @@ use mathlib.Core.Option.{Option, none, some}
 use Prim.Native.Nat.{ℕ, _≤_}
 use lib.ListN.{length}
 use Rattle.mode.specs.Scheme.{isKey, isSize}
-use Rattle.mode.specs.Sealing.{Triple, Key}
-use Rattle.answers.specs.Rules.{Rule, firstOf, settleBy, volume, isShape, surveyRules}
+use Rattle.mode.specs.Sealing.{Triple}
+use Rattle.answers.specs.Rules.{settleBy, isShape, Volume}
 use Rattle.history.specs.Volume.{mirror}
 use Rattle.answers.proofs.Passing.{survey-pass}
-use Rattle.report.specs.Survey.{Report, refused, verdictAt, surveyed, surveyOutcome}
+use Rattle.report.specs.Survey.{Report, refused, verdictAt, surveyed, surveyOutcome, surveyRefusal}
+use Rattle.history.specs.History.{own}
 
 -- what passes them
-pub accepts : (v : Triple) (k : Key) (s n room : ℕ) → isKey k ≡ true → isSize s ≡ true → isShape s n v ≡ true → n ≤ room
-    → firstOf (surveyRules (volume k s n) (isShape s n v) room) ≡ none
-accepts v k s n room ek es eh l = survey-pass v (volume k s n) room (record { key = ek; size = es; shape = eh }) l
+pub accepts : (v : Triple) (vol : Volume) (room : ℕ) → isKey (vol .key) ≡ true → isSize (vol .size) ≡ true → isShape (vol .size) (vol .count) v ≡ true
+    → vol .count ≤ room → surveyRefusal v vol room ≡ none
+accepts v vol room ek es eh l = survey-pass v vol room (record { key = ek; size = es; shape = eh }) l
 
-module _ (v : Triple) (k : Key) (s n : ℕ) (list : List ℕ) where
-  abbrev rules : List Rule
-  rules = surveyRules (volume k s n) (isShape s n v) (length list)
+module _ (v : Triple) (vol : Volume) (list : List ℕ) where
+  abbrev answer : Report × List ℕ
+  answer = surveyed (verdictAt (own mirror vol) (vol .size) v) (vol .count) list
 
-  pub survey-passes : firstOf rules ≡ none → {x : Report × List ℕ} → surveyed (verdictAt (mirror k) s v) n list ≡ x → surveyOutcome v k s n list ≡ x
+  pub survey-passes : surveyRefusal v vol (length list) ≡ none → {x : Report × List ℕ} → answer ≡ x → surveyOutcome v vol list ≡ x
   unfolding surveyOutcome
-  survey-passes e d = ap (λ (o : Option ℕ). settleBy refused o (surveyed (verdictAt (mirror k) s v) n list) list) e ∙ d
+  survey-passes e d = ap (λ (o : Option ℕ). settleBy refused o answer list) e ∙ d
 
-  pub survey-refused : {m : ℕ} → firstOf rules ≡ some m → surveyOutcome v k s n list ≡ (refused m, list)
+  pub survey-refused : {m : ℕ} → surveyRefusal v vol (length list) ≡ some m → surveyOutcome v vol list ≡ (refused m, list)
   unfolding surveyOutcome
-  survey-refused e = ap (λ (o : Option ℕ). settleBy refused o (surveyed (verdictAt (mirror k) s v) n list) list) e
+  survey-refused e = ap (λ (o : Option ℕ). settleBy refused o answer list) e

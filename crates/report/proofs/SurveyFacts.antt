@@ -8,7 +8,7 @@ use native.Mathlib.Omega.{arith}
 use Rattle.block.proofs.Lists.{false-true}
 use Rattle.mode.specs.Sealing.{Triple}
 use Rattle.history.specs.Answers.{isLost}
-use Rattle.history.specs.History.{Found, Promise, Promised}
+use Rattle.history.specs.History.{Found, Promise, Promised, own}
 use Rattle.history.specs.HistoryFrom.{AnyBytes}
 use Rattle.history.specs.Machine.{Held, gone, kept, start}
 use Rattle.answers.specs.Rules.{Volume}
@@ -34,7 +34,7 @@ found-of vol v i (kept P none) e p = p .0
 found-of vol v i (kept P (some q)) e p = p .0
 
 module _ (vol : Volume) (v : Triple) (bytes : AnyBytes v) (es : List Event) (allowed : AllAllowed mirror vol v es) where
-  kept-found : (i : ℕ) → i < vol .count → isKept (hold mirror vol v start es i) ≡ true → LostAt (vol .key) (vol .size) (run mirror vol v es) i → ⊥
+  kept-found : (i : ℕ) → i < vol .count → isKept (hold mirror vol v start es i) ≡ true → LostAt vol (run mirror vol v es) i → ⊥
   kept-found i lt e =
       let promised : Promised mirror vol (run mirror vol v es) (hold mirror vol v start es) = general .from-any-lengths vol v bytes es allowed in
       found-of vol (run mirror vol v es) i (hold mirror vol v start es i) e (promised .held i lt) .not-lost
@@ -45,19 +45,19 @@ module _ (vol : Volume) (v : Triple) (bytes : AnyBytes v) (es : List Event) (all
   Covers (counted c, list) = tally isKept (hold mirror vol v start es) (vol .count) ≤ c .whole + c .doubtful + c .clashing
 
   kept-not-lost : Common (run mirror vol v es) vol → (i : ℕ) → i < vol .count → isKept (hold mirror vol v start es i) ≡ true
-      → isLost (verdictAt (mirror (vol .key)) (vol .size) (run mirror vol v es) i) ≡ false
-  kept-not-lost o i lt e = go (isLost (verdictAt (mirror (vol .key)) (vol .size) (run mirror vol v es) i)) refl
+      → isLost (verdictAt (own mirror vol) (vol .size) (run mirror vol v es) i) ≡ false
+  kept-not-lost o i lt e = go (isLost (verdictAt (own mirror vol) (vol .size) (run mirror vol v es) i)) refl
     where
-      go : (b : Bool) → isLost (verdictAt (mirror (vol .key)) (vol .size) (run mirror vol v es) i) ≡ b → b ≡ false
-      go true d = absurd (kept-found i lt e (lost-at (run mirror vol v es) (run-bytes mirror mirror-sound vol es v bytes allowed) (vol .key) (vol .size) (vol .count) o i lt .0 d))
+      go : (b : Bool) → isLost (verdictAt (own mirror vol) (vol .size) (run mirror vol v es) i) ≡ b → b ≡ false
+      go true d = absurd (kept-found i lt e (lost-at (run mirror vol v es) (run-bytes mirror mirror-sound vol es v bytes allowed) vol o i lt .0 d))
       go false d = refl
 
   kept-counted : (list : List ℕ) (c : Counts) (after : List ℕ)
-      → surveyOutcome (run mirror vol v es) (vol .key) (vol .size) (vol .count) list ≡ (counted c, after)
+      → surveyOutcome (run mirror vol v es) vol list ≡ (counted c, after)
       → tally isKept (hold mirror vol v start es) (vol .count) ≤ c .whole + c .doubtful + c .clashing
   kept-counted list =
-      of-outcome (run mirror vol v es) (vol .key) (vol .size) (vol .count) list Covers
-      (λ o. let w = verdictAt (mirror (vol .key)) (vol .size) (run mirror vol v es) in
+      of-outcome (run mirror vol v es) vol list Covers
+      (λ o. let w = verdictAt (own mirror vol) (vol .size) (run mirror vol v es) in
       omega (arith, all-counted w (vol .count), apart isKept isLost (hold mirror vol v start es) w (vol .count) (kept-not-lost o)))
 
 pub survey-facts : SurveyFacts
@@ -65,8 +65,8 @@ survey-facts = record {
   lists-once = lists-once;
   repair-once = repair-once;
   accepts = accepts;
-  refuses = λ v k s n list m. survey-refused v k s n list;
-  answers = λ v k s n list e. survey-passes v k s n list e refl;
+  refuses = λ v vol list m. survey-refused v vol list;
+  answers = λ v vol list e. survey-passes v vol list e refl;
   by-fitting = by-fitting;
   kept-found = kept-found;
   kept-counted = kept-counted;

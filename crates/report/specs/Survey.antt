@@ -8,10 +8,10 @@ use mathlib.Core.List.{List, [], _∷_, _++_, List·Memᴰ}
 use mathlib.Core.Option.{Option, none, some}
 use Prim.Native.Nat.{ℕ, zero, suc, _+_, _*_, _/_, _<_, _≤_}
 use lib.ListN.{length, getD, drop}
-use Rattle.mode.specs.Sealing.{Triple, Key}
+use Rattle.mode.specs.Sealing.{Triple}
 use Rattle.mode.specs.Scheme.{Place, isKey, isSize, Scheme}
 use Rattle.answers.specs.Answers.{refusalNumber}
-use Rattle.answers.specs.Rules.{firstOf, settleBy, Volume, isShape, surveyRules, volume}
+use Rattle.answers.specs.Rules.{firstOf, settleBy, Volume, isShape, surveyRules}
 use Rattle.verdict.specs.Verdict.{Verdict, whole, doubtful, lost, clashing, Means, judge}
 use Rattle.report.specs.declared.Counts.{Counts}
 use Rattle.report.specs.declared.Surveyed.{Surveyed}
@@ -21,6 +21,7 @@ use Rattle.history.specs.HistoryFrom.{AnyBytes}
 use Rattle.history.specs.Machine.{Held, gone, kept, start}
 use Rattle.history.specs.Power.{Event, AllAllowed, run, hold}
 use Rattle.history.specs.Volume.{sectorOf, mirror}
+use Rattle.history.specs.History.{own, at}
 
 -- ---- counts and the list, from the verdict on each sector
 
@@ -71,8 +72,8 @@ reportOf (Counted c) = counted c
 reportOf (Refused r) = refused (refusalNumber r)
 
 -- the refusal of a survey of the images v with a list of this length, if it is refused
-abbrev pub surveyRefusal : Triple → Key → ℕ → ℕ → ℕ → Option ℕ
-surveyRefusal v k s n room = firstOf (surveyRules (volume k s n) (isShape s n v) room)
+abbrev pub surveyRefusal : Triple → Volume → ℕ → Option ℕ
+surveyRefusal v vol room = firstOf (surveyRules (vol .key) (vol .size) (vol .count) (isShape (vol .size) (vol .count) v) room)
 
 -- the verdict on sector i of the images v
 abbrev pub verdictAt : Scheme → ℕ → Triple → ℕ → Verdict
@@ -83,16 +84,16 @@ abbrev pub surveyed : (ℕ → Verdict) → ℕ → List ℕ → Report × List 
 surveyed w n list = (counted (countsOf w n (health (tally isWhole w n) n)), written w n list)
 
 -- a refusal leaves the list as it was
-unfoldable pub surveyOutcome : Triple → Key → ℕ → ℕ → List ℕ → Report × List ℕ
-surveyOutcome v k s n list =
-    settleBy refused (surveyRefusal v k s n (length list)) (surveyed (verdictAt (mirror k) s v) n list) list
+unfoldable pub surveyOutcome : Triple → Volume → List ℕ → Report × List ℕ
+surveyOutcome v vol list =
+    settleBy refused (surveyRefusal v vol (length list)) (surveyed (verdictAt (own mirror vol) (vol .size) v) (vol .count) list) list
 
 -- ---- the same by fitting (document 01, "The verdict"), without judging
 
 -- sector i of the images v, under its address i
-module _ (k : Key) (s : ℕ) (v : Triple) where
+module _ (vol : Volume) (v : Triple) where
   abbrev pub Fitting : Verdict → ℕ → Type 0
-  Fitting w i = Means s (mirror k) i (sectorOf s i v) w
+  Fitting w i = Means (vol .size) (own mirror vol) i (at vol v i) w
 
   abbrev pub WholeAt : ℕ → Type 0
   WholeAt i = (P : List ℕ) × Fitting (whole P) i
@@ -114,11 +115,11 @@ rank (doubtful d P) = 2
 rank (whole P) = 3
 
 -- sector i stands before sector j in repair order: its kind is graver, or the same and its number lower
-pub record Before (k : Key) (s : ℕ) (v : Triple) (i j : ℕ) : Type 0 where
+pub record Before (vol : Volume) (v : Triple) (i j : ℕ) : Type 0 where
   pub first : Verdict
   pub second : Verdict
-  pub first-fits : Fitting k s v first i
-  pub second-fits : Fitting k s v second j
+  pub first-fits : Fitting vol v first i
+  pub second-fits : Fitting vol v second j
   pub graver : (rank first < rank second) ⊎ ((rank first ≡ rank second) × (i < j))
 
 -- of two entries the earlier one has the relation R to the later
@@ -134,23 +135,23 @@ pub record Lists (R : ℕ → ℕ → Type 0) (P : ℕ → Type 0) (n : ℕ) (l 
 abbrev pub Many : (ℕ → Type 0) → ℕ → ℕ → Type 0
 Many P n m = (l : List ℕ) × Lists _<_ P n l × (length l ≡ m)
 
--- what the counts c, and the list `after` of a list that was `before`, say of n sectors of the images v
-pub record ByFitting (k : Key) (s n : ℕ) (v : Triple) (before : List ℕ) (c : Counts) (after : List ℕ) : Type 0 where
-  pub whole-count : Many (WholeAt k s v) n (c .whole)
-  pub doubtful-count : Many (DoubtfulAt k s v) n (c .doubtful)
-  pub clashing-count : Many (ClashingAt k s v) n (c .clashing)
-  pub lost-count : Many (LostAt k s v) n (c .lost)
-  pub all-counted : c .whole + c .doubtful + c .clashing + c .lost ≡ n
+-- what the counts c, and the list `after` of a list that was `before`, say of the sectors of the images v
+pub record ByFitting (vol : Volume) (v : Triple) (before : List ℕ) (c : Counts) (after : List ℕ) : Type 0 where
+  pub whole-count : Many (WholeAt vol v) (vol .count) (c .whole)
+  pub doubtful-count : Many (DoubtfulAt vol v) (vol .count) (c .doubtful)
+  pub clashing-count : Many (ClashingAt vol v) (vol .count) (c .clashing)
+  pub lost-count : Many (LostAt vol v) (vol .count) (c .lost)
+  pub all-counted : c .whole + c .doubtful + c .clashing + c .lost ≡ vol .count
   -- health: at most 1,000, and 1,000 exactly if all sectors are whole
-  pub rounded-down : c .health ≡ c .whole * 1000 / n
+  pub rounded-down : c .health ≡ c .whole * 1000 / vol .count
   pub health-most : c .health ≤ 1000
-  pub health-full : (c .health ≡ 1000) ↔ ((i : ℕ) → i < n → WholeAt k s v i)
+  pub health-full : (c .health ≡ 1000) ↔ ((i : ℕ) → i < vol .count → WholeAt vol v i)
   -- the front of the list: the lost, then the clashing, then the doubtful sectors that are counted above (.0 of a count is the list of the
   -- numbers that it counts)
   pub front : List ℕ
   pub by-kind : front ≡ lost-count .0 ++ clashing-count .0 ++ doubtful-count .0
   -- so it has the numbers of the sectors that are not whole, in repair order, no two of them equal
-  pub not-whole : Lists (Before k s v) (λ i. WholeAt k s v i → ⊥) n front
+  pub not-whole : Lists (Before vol v) (λ i. WholeAt vol v i → ⊥) (vol .count) front
   pub once : Sorted (λ i j. i ≡ j → ⊥) front
   -- the entries behind
   pub behind : after ≡ front ++ drop (length front) before
@@ -165,25 +166,25 @@ pub record SurveyFacts : Type 1 where
   -- no two rising lists have the same numbers, so a count is one number,
   pub lists-once : (P : ℕ → Type 0) (n : ℕ) (l m : List ℕ) → Lists _<_ P n l → Lists _<_ P n m → l ≡ m
   -- and no two lists in repair order
-  pub repair-once : (v : Triple) → AnyBytes v → (k : Key) (s n : ℕ) → isKey k ≡ true → isSize s ≡ true → isShape s n v ≡ true
-      → (P : ℕ → Type 0) (l m : List ℕ) → Lists (Before k s v) P n l → Lists (Before k s v) P n m → l ≡ m
+  pub repair-once : (v : Triple) → AnyBytes v → (vol : Volume) → isKey (vol .key) ≡ true → isSize (vol .size) ≡ true → isShape (vol .size) (vol .count) v ≡ true
+      → (P : ℕ → Type 0) (l m : List ℕ) → Lists (Before vol v) P (vol .count) l → Lists (Before vol v) P (vol .count) m → l ≡ m
   -- with a key, a size, a shape and a list that are right a survey is not refused
-  pub accepts : (v : Triple) (k : Key) (s n room : ℕ) → isKey k ≡ true → isSize s ≡ true → isShape s n v ≡ true → n ≤ room
-      → surveyRefusal v k s n room ≡ none
+  pub accepts : (v : Triple) (vol : Volume) (room : ℕ) → isKey (vol .key) ≡ true → isSize (vol .size) ≡ true → isShape (vol .size) (vol .count) v ≡ true
+      → vol .count ≤ room → surveyRefusal v vol room ≡ none
   -- a refused survey leaves the list; any other answers with the counts of its verdicts
-  pub refuses : (v : Triple) (k : Key) (s n : ℕ) (list : List ℕ) (m : ℕ) → surveyRefusal v k s n (length list) ≡ some m
-      → surveyOutcome v k s n list ≡ (refused m, list)
-  pub answers : (v : Triple) (k : Key) (s n : ℕ) (list : List ℕ) → surveyRefusal v k s n (length list) ≡ none
-      → surveyOutcome v k s n list ≡ surveyed (verdictAt (mirror k) s v) n list
+  pub refuses : (v : Triple) (vol : Volume) (list : List ℕ) (m : ℕ) → surveyRefusal v vol (length list) ≡ some m
+      → surveyOutcome v vol list ≡ (refused m, list)
+  pub answers : (v : Triple) (vol : Volume) (list : List ℕ) → surveyRefusal v vol (length list) ≡ none
+      → surveyOutcome v vol list ≡ surveyed (verdictAt (own mirror vol) (vol .size) v) (vol .count) list
   -- these are the counts, and the list, by fitting
-  pub by-fitting : (v : Triple) → AnyBytes v → (k : Key) (s n : ℕ) (list : List ℕ) (c : Counts) (after : List ℕ)
-      → surveyOutcome v k s n list ≡ (counted c, after) → ByFitting k s n v list c after
+  pub by-fitting : (v : Triple) → AnyBytes v → (vol : Volume) (list : List ℕ) (c : Counts) (after : List ℕ)
+      → surveyOutcome v vol list ≡ (counted c, after) → ByFitting vol v list c after
   -- after every list of events, from images of any bytes and all sectors gone: no sector that the machine keeps is lost,
   pub kept-found : (vol : Volume) (v : Triple) → AnyBytes v → (es : List Event) → AllAllowed mirror vol v es
       → (i : ℕ) → i < vol .count → isKept (hold mirror vol v start es i) ≡ true
-      → LostAt (vol .key) (vol .size) (run mirror vol v es) i → ⊥
+      → LostAt vol (run mirror vol v es) i → ⊥
   -- so no more are kept than a survey counts as whole, doubtful or clashing
   pub kept-counted : (vol : Volume) (v : Triple) → AnyBytes v → (es : List Event) → AllAllowed mirror vol v es
       → (list : List ℕ) (c : Counts) (after : List ℕ)
-      → surveyOutcome (run mirror vol v es) (vol .key) (vol .size) (vol .count) list ≡ (counted c, after)
+      → surveyOutcome (run mirror vol v es) vol list ≡ (counted c, after)
       → tally isKept (hold mirror vol v start es) (vol .count) ≤ c .whole + c .doubtful + c .clashing

@@ -10,7 +10,7 @@ use Rattle.answers.specs.declared.Done.{Done}
 use Rattle.answers.specs.declared.Done.the-variants as D
 use Rattle.answers.specs.declared.Refusal.{Refusal}
 use Rattle.answers.specs.Answers.{refusalNumber, doneOption}
-use Rattle.answers.specs.Rules.{firstOf, volume, shape, isShape, surveyRules}
+use Rattle.answers.specs.Rules.{firstOf, Volume, volumeOf, shape, isShape, surveyRules}
 use Rattle.history.specs.Volume.{mirror}
 use Rattle.answers.proofs.Passing.{survey-passed}
 use Rattle.report.proofs.Refusals.{survey-passes, survey-refused}
@@ -19,17 +19,21 @@ use Rattle.images.proofs.Rooms.{has-room}
 use Rattle.report.specs.Survey.{Report, refused, verdictAt, surveyed, surveyOutcome}
 
 -- of these images and this list
-module _ (k l g r list : List ℕ) (s n : ℕ) {d : Done} (e : firstOf (surveyRules (volume (keyFrom k) s n) (shape s n (length l) (length g) (length r)) (length list)) ≡ doneOption d) where
-  pub checked-room : d ≡ D.Done → (isKey (keyFrom k) ≡ true) × Room s n (length l) (length g) (length r) × (n ≤ length list)
-  unfolding isShape
-  checked-room z =
-      let t = survey-passed (triple l g r) (volume (keyFrom k) s n) (length list) (e ∙ ap doneOption z) in
-      (t .0 .key, has-room (triple l g r) (volume (keyFrom k) s n) (t .0), t .1)
+module _ (k l g r list : List ℕ) (s n : ℕ) where
+  abbrev vol : Volume
+  vol = volumeOf (keyFrom k) s n
 
-  pub checked-counted : {x : Report × List ℕ} → d ≡ D.Done → surveyed (verdictAt (mirror (keyFrom k)) s (triple l g r)) n list ≡ x → surveyOutcome (triple l g r) (keyFrom k) s n list ≡ x
-  unfolding isShape
-  checked-counted z c = survey-passes (triple l g r) (keyFrom k) s n list (e ∙ ap doneOption z) c
+  module _ {d : Done} (e : firstOf (surveyRules (keyFrom k) s n (shape s n (length l) (length g) (length r)) (length list)) ≡ doneOption d) where
+    pub checked-room : d ≡ D.Done → (isKey (keyFrom k) ≡ true) × Room s n (length l) (length g) (length r) × (n ≤ length list)
+    unfolding isShape
+    checked-room z =
+        let t = survey-passed (triple l g r) vol (length list) (e ∙ ap doneOption z) in
+        (t .0 .key, has-room (triple l g r) vol (t .0), t .1)
 
-  pub checked-refused : {f : Refusal} → d ≡ D.Refused f → surveyOutcome (triple l g r) (keyFrom k) s n list ≡ (refused (refusalNumber f), list)
-  unfolding isShape
-  checked-refused z = survey-refused (triple l g r) (keyFrom k) s n list (e ∙ ap doneOption z)
+    pub checked-counted : {x : Report × List ℕ} → d ≡ D.Done → surveyed (verdictAt (mirror (keyFrom k)) s (triple l g r)) n list ≡ x → surveyOutcome (triple l g r) vol list ≡ x
+    unfolding isShape
+    checked-counted z c = survey-passes (triple l g r) vol list (e ∙ ap doneOption z) c
+
+    pub checked-refused : {f : Refusal} → d ≡ D.Refused f → surveyOutcome (triple l g r) vol list ≡ (refused (refusalNumber f), list)
+    unfolding isShape
+    checked-refused z = survey-refused (triple l g r) vol list (e ∙ ap doneOption z)

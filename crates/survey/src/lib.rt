@@ -18,6 +18,7 @@ ghost use Rattle.history.specs.Volume.{mirror};
 ghost use Rattle.images.specs.Lent.{Room, Within, Scratch};
 ghost use Rattle.report.specs.Survey.{verdictAt, health, counted, surveyed, reportOf, surveyOutcome};
 ghost use Rattle.survey.specs.Inner.{verdictBy, Tells, CountsOne, MarksOne, maps, Empty, Sized, AllJudged, setBelow, inOrder};
+ghost use Rattle.answers.specs.Rules.{volumeOf};
 
 // Judges sector i, whose number makes the context.
 fn judge_at<'k>(
@@ -303,7 +304,7 @@ pub fn survey(
     remote: &[u8],
     list: &mut [u32],
 ) -> Surveyed
-    ensures { λ r. ⌜ surveyOutcome (triple (now (local .entry)) (now (tags .entry)) (now (remote .entry))) (keyFrom (now (key .entry))) s n (now (list .entry)) ≡ (reportOf r, now (list .exit)) ⌝ }
+    ensures { λ r. ⌜ surveyOutcome (triple (now (local .entry)) (now (tags .entry)) (now (remote .entry))) (volumeOf (keyFrom (now (key .entry))) s n) (now (list .entry)) ≡ (reportOf r, now (list .exit)) ⌝ }
 {
     let checked = answers::check_survey(
         key,

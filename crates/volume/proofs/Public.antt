@@ -31,7 +31,7 @@ module _ (k : List ℕ) (s n i : ℕ) (l g r : List ℕ) where
 
   -- d is what the early checks of the call c answer
   abbrev Checks : Call → Done → Type 0
-  Checks c d = firstOf (sectorRules (shape s n (length l) (length g) (length r)) a ++ lengths a c) ≡ doneOption d
+  Checks c d = firstOf (sectorRules (keyFrom k) s n (shape s n (length l) (length g) (length r)) i ++ lengths a c) ≡ doneOption d
 
   module _ (c : Call) {d : Done} (checks : Checks c d) where
     answered : {x : Done} → d ≡ x → firstOf (early v a c) ≡ doneOption x
@@ -54,7 +54,7 @@ module _ (k : List ℕ) (s n i : ℕ) (l g r : List ℕ) where
   long p checks q = length-due p s (passed v a (read p) (answered (read p) checks q) .lengths)
 
   -- a plaintext or an output of p bytes, which is s where the checks pass
-  module _ (p : ℕ) {d : Done} (checks : firstOf (sectorRules (shape s n (length l) (length g) (length r)) a ++ lengthRules p s) ≡ doneOption d) (q : d ≡ D.Done) where
+  module _ (p : ℕ) {d : Done} (checks : firstOf (sectorRules (keyFrom k) s n (shape s n (length l) (length g) (length r)) i ++ lengthRules p s) ≡ doneOption d) (q : d ≡ D.Done) where
     pub long-within : (isKey (keyFrom k) ≡ true) × Within p i (length l) (length g) (length r)
     long-within =
         let w = call-within (read p) checks q in
@@ -62,7 +62,7 @@ module _ (k : List ℕ) (s n i : ℕ) (l g r : List ℕ) where
 
     pub stage-done : (c : Call) → lengths a c ≡ lengthRules p s → {x : ℕ × Triple} → lateOutcome (mirror (keyFrom k)) i p i v c ≡ x → outcome mirror v a c ≡ x
     stage-done c e x =
-        let same = subst (λ (m : List Rule). firstOf (sectorRules (shape s n (length l) (length g) (length r)) a ++ m) ≡ doneOption d) (sym e) checks in
+        let same = subst (λ (m : List Rule). firstOf (sectorRules (keyFrom k) s n (shape s n (length l) (length g) (length r)) i ++ m) ≡ doneOption d) (sym e) checks in
         call-done c same q (ap (λ (m : ℕ). lateOutcome (mirror (keyFrom k)) i m i v c) (sym (long p checks q)) ∙ x)
 
   -- ---- blank

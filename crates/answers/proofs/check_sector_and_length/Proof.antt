@@ -1,5 +1,5 @@
 use Rattle.mode.specs.Sealing.{keyFrom}
-use Rattle.answers.specs.Rules.{args, shape, sectorRules, lengthRules}
+use Rattle.answers.specs.Rules.{shape, sectorRules, lengthRules}
 use Rattle.answers.proofs.Rules.{first-both}
 use borrow.Author.Needs.{needs}
 use Rattle.answers.proofs.check_sector_and_length.Statement.{statement}
@@ -17,7 +17,7 @@ first-refusal-requires c κs = search needs
 returns : tie.Need-returns
 returns c =
     let a = c .before .before .before .before .args in
-    first-both (lengthRules (a .p) (a .s)) (sectorRules (shape (a .s) (a .n) (a .l) (a .g) (a .r)) (args (keyFrom (a .key .now)) (a .s) (a .n) (a .i)))
+    first-both (lengthRules (a .p) (a .s)) (sectorRules (keyFrom (a .key .now)) (a .s) (a .n) (shape (a .s) (a .n) (a .l) (a .g) (a .r)) (a .i))
     (c .before .before .check-sector .ensures) (c .before .check-length .ensures) (c .first-refusal .ensures)
 
 pub check-sector-and-length-spec : {M : Type 1} → statement M
