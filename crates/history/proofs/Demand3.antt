@@ -15,12 +15,12 @@ unfolding mirror sealed scheme dcm
 mirror-sound vol ek es =
     let L : Lawful (vol .size) (scheme (vol .key)) = sound .lawful (vol .key) (vol .size) ek es in
     record {
-      shape = λ a P p. L .shape (tweak a) P p;
-      left = λ a P p. L .left (tweak a) P p;
-      right = λ a P p. L .right (tweak a) P p;
-      onto-left = λ a g x p q e. L .onto-left (tweak a) g x p q e;
-      onto-right = λ a g x p q e. L .onto-right (tweak a) g x p q e;
-      sum = λ a P p. L .sum (tweak a) P p;
+      shape = λ a P p. L .shape (tweak 0 a) P p;
+      left = λ a P p. L .left (tweak 0 a) P p;
+      right = λ a P p. L .right (tweak 0 a) P p;
+      onto-left = λ a g x p q e. L .onto-left (tweak 0 a) g x p q e;
+      onto-right = λ a g x p q e. L .onto-right (tweak 0 a) g x p q e;
+      sum = λ a P p. L .sum (tweak 0 a) P p;
       plain-local = L .plain-local;
       plain-remote = L .plain-remote;
     }

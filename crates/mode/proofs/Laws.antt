@@ -3,9 +3,8 @@ use mathlib.Core.Path.{_≡_, sym, ap, ap₂, _∙_}
 use mathlib.Core.List.{List, [], _∷_, _++_}
 use Prim.Native.Nat.{ℕ, _+_, _-_, _*_, _/_, _%_, _^_, _<_}
 use native.Mathlib.Numerals.{add-one}
-use native.Mathlib.Nat.{zero-add}
 use native.Mathlib.Omega.{arith}
-use lib.ListN.{length, take, drop, replicate, length-drop}
+use lib.ListN.{length, take, drop, length-drop}
 use lib.Seq.{take-all}
 use lib.Bits.{bitXor, xor-comm, xor-lt}
 use Rattle.block.specs.Bytes.{Plain, number, fromBytes, toBytes, blocksOf, xorBytes}
@@ -13,7 +12,7 @@ use Rattle.block.specs.Field.{double, mul, x⁻¹, 1⊕x⁻¹}
 use Rattle.block.proofs.Bits.{xor-assoc, xor-cancel}
 use Rattle.block.proofs.Field.{mul-lt, mul-two-l, mul-three-l, x-inverse, x⁻¹-inverse, 1⊕x-inverse, 1⊕x⁻¹-inverse}
 use Rattle.block.proofs.Lists.{xor-bytes-comm, xor-bytes-cancel}
-use Rattle.block.proofs.Numbers.{number-append, from-to, bytes-toBytes, length-toBytes}
+use Rattle.block.proofs.Numbers.{number-append, from-to, bytes-toBytes, length-toBytes, number-scale}
 use Rattle.hash.specs.Brw.{brw}
 use Rattle.fips197.specs.Aes.{expand, cipherNumber}
 use Rattle.fips197.proofs.Bounds.{cipher-lt}
@@ -188,6 +187,11 @@ module _ (k : List ℕ) (size : length k ≡ 32) where
   hash-key-is e f = e ∙ f
 
 -- the tweak as two words
-pub tweak-is : (address : ℕ) → address < 2 ^ 64 → 0 * 2 ^ 64 + address ≡ tweak address
+pub tweak-is : (volume address : ℕ) → volume < 2 ^ 64 → address < 2 ^ 64 → volume * 2 ^ 64 + address ≡ tweak volume address
 unfolding tweak fromBytes number
-tweak-is address h = zero-add address ∙ sym (number-append 0 (replicate 8 0) (toBytes 8 address) ∙ from-to 8 address h)
+tweak-is volume address hv ha =
+    sym
+    (number-append 0 (toBytes 8 volume) (toBytes 8 address)
+    ∙ number-scale (number 0 (toBytes 8 volume)) (toBytes 8 address)
+    ∙ ap (λ (k : ℕ). number 0 (toBytes 8 volume) * 256 ^ k + number 0 (toBytes 8 address)) (length-toBytes 8 address)
+    ∙ ap₂ (λ (v a : ℕ). v * 2 ^ 64 + a) (from-to 8 volume hv) (from-to 8 address ha))

@@ -3,3 +3,4 @@ pub mod Blockwise
 pub mod Laws
 pub mod KeyFacts
 pub mod Preparing
+pub mod TweakFacts

@@ -1,5 +1,6 @@
 pub mod Sealing
 pub mod KeyFacts
+pub mod TweakFacts
 pub mod Scheme
 pub mod Transforms
 pub mod Prepared

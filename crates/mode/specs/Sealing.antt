@@ -2,7 +2,7 @@
 -- a sector a list of bytes. Assumes nothing: these are definitions.
 use Prim.Native.Nat.{ℕ, zero, suc, _+_, _/_}
 use mathlib.Core.List.{List, [], _∷_, _++_}
-use lib.ListN.{length, take, drop, replicate}
+use lib.ListN.{length, take, drop}
 use lib.Bits.{bitXor}
 use Rattle.block.specs.Bytes.{fromBytes, toBytes, blocksOf}
 use Rattle.block.specs.Field.{double, mul, x⁻¹, 1⊕x⁻¹}
@@ -29,9 +29,9 @@ cipherKey k = drop 16 (k .bytes)
 unfoldable pub roundKeys : Key → List ℕ
 roundKeys k = let nk : ℕ = length (cipherKey k) / 4 in expand nk (nk + 6) (cipherKey k)
 
--- the tweak T: the address as a block, its upper 8 bytes zero
-unfoldable pub tweak : ℕ → ℕ
-tweak address = fromBytes (replicate 8 0 ++ toBytes 8 address)
+-- the tweak T: two 64-bit numbers as a block, high byte first
+unfoldable pub tweak : ℕ → ℕ → ℕ
+tweak volume address = fromBytes (toBytes 8 volume ++ toBytes 8 address)
 
 -- ---- the mode over a block cipher E
 
@@ -93,4 +93,4 @@ sealedBy E h T P = sides E (tagBlock E h T P) P
 
 -- what P seals to under a key, at an address
 unfoldable pub sealed : Key → ℕ → List ℕ → Triple
-sealed k address P = sealedBy (cipherNumber (roundKeys k)) (hashKey k) (tweak address) P
+sealed k address P = sealedBy (cipherNumber (roundKeys k)) (hashKey k) (tweak 0 address) P

@@ -58,16 +58,19 @@ pub fn prepare(t: &Table, key: &[u8]) -> Prepared
     }
 }
 
-// A key's masks with the tweak of an address: the one place where an address becomes a block.
-pub fn context_at(masks: Masks, address: u64) -> Context
-    ensures { λ r. ⌜ (r .alpha ≡ masks .alpha) × (r .beta ≡ masks .beta) × (value (r .tweak) ≡ tweak address) ⌝ }
+// A key's masks with the tweak of a volume's number and an address: the one place where these become a block.
+pub fn context_at(masks: Masks, volume: u64, address: u64) -> Context
+    ensures { λ r. ⌜ (r .alpha ≡ masks .alpha) × (r .beta ≡ masks .beta) × (value (r .tweak) ≡ tweak volume address) ⌝ }
 {
     let alpha = masks.alpha;
     let beta = masks.beta;
     Context {
         alpha,
         beta,
-        tweak: Block { hi: 0, lo: address },
+        tweak: Block {
+            hi: volume,
+            lo: address,
+        },
     }
 }
 

@@ -83,17 +83,17 @@ module _ (k : Key) (s : ℕ) (ek : isKey k ≡ true) (es : isSize s ≡ true) wh
   -- ---- judge
 
   module _ (address : ℕ) (t : Triple) (out : List ℕ) (σ : Sector s t) (size : length out ≡ s) where
-    judge-is : judgeCall k address t out ≡ verdictOutcome (judge S (tweak address) t) out
+    judge-is : judgeCall k address t out ≡ verdictOutcome (judge S (tweak 0 address) t) out
     judge-is =
         let e = σ .places local .long in
         judge-passes (k .bytes) address t out
         (parts-pass k (length (t .local)) (length (t .remote)) (length out) (length (t .tag)) ek (ap isSize e ∙ es) (σ .places remote .long ∙ sym e) (size ∙ sym e) (σ .places tag .long))
         refl refl
 
-    judged : (w : Verdict) → (judgeCall k address t out ≡ verdictOutcome w out) ↔ Means s S (tweak address) t w
+    judged : (w : Verdict) → (judgeCall k address t out ≡ verdictOutcome w out) ↔ Means s S (tweak 0 address) t w
     judged w =
-        let exact = judge-exact s S lawful (tweak address) t σ w in
-        (λ e. exact .0 (outcome-one (judge S (tweak address) t) w out (sym judge-is ∙ e)), λ m. judge-is ∙ ap (λ (v : Verdict). verdictOutcome v out) (exact .1 m))
+        let exact = judge-exact s S lawful (tweak 0 address) t σ w in
+        (λ e. exact .0 (outcome-one (judge S (tweak 0 address) t) w out (sym judge-is ∙ e)), λ m. judge-is ∙ ap (λ (v : Verdict). verdictOutcome v out) (exact .1 m))
 
     judges : Judges k s address t out
     judges = record { at-whole = λ P. judged (whole P); at-doubtful = λ d P. judged (doubtful d P); at-lost = judged lost; at-clashing = judged clashing }
@@ -102,28 +102,28 @@ module _ (k : Key) (s : ℕ) (ek : isKey k ≡ true) (es : isSize s ≡ true) wh
 
   module _ (address : ℕ) (d : Side) (x g out : List ℕ) (plain-x : Plain s x) (plain-g : Plain 16 g) (size : length out ≡ s) where
     abbrev result : Option (List ℕ)
-    result = opened S (tweak address) d g x
+    result = opened S (tweak 0 address) d g x
 
     abbrev Sealed : List ℕ → Type 0
     Sealed P = SealsTo k s address d x g P
 
-    fits-of : (P : List ℕ) → Sealed P → W.FitsBoth S (tweak address) d g x P
+    fits-of : (P : List ℕ) → Sealed P → W.FitsBoth S (tweak 0 address) d g x P
     unfolding sealed scheme dcm
     fits-of P h = record { fits-tag = h .its-tag; fits-side = h .sector }
 
-    of-fits : (P : List ℕ) → Plain s P → W.FitsBoth S (tweak address) d g x P → Sealed P
+    of-fits : (P : List ℕ) → Plain s P → W.FitsBoth S (tweak 0 address) d g x P → Sealed P
     unfolding sealed scheme dcm
     of-fits P p o = record { size = p; sector = o .fits-side; its-tag = o .fits-tag }
 
     found : (P : List ℕ) → (result ≡ some P) ↔ Sealed P
     found P =
-        let e = open-exact s S lawful (tweak address) d g x plain-g plain-x P in
+        let e = open-exact s S lawful (tweak 0 address) d g x plain-g plain-x P in
         (λ r. of-fits P (e .0 r .0) (e .0 r .1), λ h. e .1 (h .size, fits-of P h))
 
     none-found : (result ≡ none) ↔ ((P : List ℕ) → Sealed P → ⊥)
     none-found = (
       λ e P h. let r = found P .1 h in let z : _≡_ {A = ℕ} 0 1 = cc in omega arith,
-      λ never. opened-none s S lawful (tweak address) d g x (open-plain s S lawful (tweak address) d g x plain-g plain-x) (λ P p o. never P (of-fits P p o)),
+      λ never. opened-none s S lawful (tweak 0 address) d g x (open-plain s S lawful (tweak 0 address) d g x plain-g plain-x) (λ P p o. never P (of-fits P p o)),
     )
 
     -- a call whose answer is the outcome under f
@@ -146,7 +146,7 @@ module _ (k : Key) (s : ℕ) (ek : isKey k ≡ true) (es : isSize s ≡ true) wh
     unfolding openCall
     open-is =
         settle-none _ out passes
-        ∙ ap (λ (c : Side). openOutcome itself (opened S (tweak address) c g x) out) (side-back d)
+        ∙ ap (λ (c : Side). openOutcome itself (opened S (tweak 0 address) c g x) out) (side-back d)
 
     opens : Opens k s address d x g out
     opens = record {
@@ -164,7 +164,7 @@ module _ (k : Key) (s : ℕ) (ek : isKey k ≡ true) (es : isSize s ≡ true) wh
     unfolding rebuildCall
     rebuild-is =
         settle-none _ out passes
-        ∙ ap (λ (c : Side). openOutcome (λ P. on (sealed k address P) (placeOf (otherSide c))) (opened S (tweak address) c g x) out) (side-back d)
+        ∙ ap (λ (c : Side). openOutcome (λ P. on (sealed k address P) (placeOf (otherSide c))) (opened S (tweak 0 address) c g x) out) (side-back d)
 
     rebuilds : Rebuilds k s address d x g out
     rebuilds = record { writes = writes opposite rebuild-is; refuses = refuses opposite rebuild-is }
@@ -177,7 +177,7 @@ module _ (k : Key) (s : ℕ) (ek : isKey k ≡ true) (es : isSize s ≡ true) wh
 
     long : (p : Place) → Plain (wide s p) (on t p)
     unfolding sealed scheme dcm
-    long p = lawful .shape (tweak address) P plain .places p
+    long p = lawful .shape (tweak 0 address) P plain .places p
 
     side-plain : (d : Side) → Plain s (on t (placeOf d))
     side-plain localSide = long local
@@ -199,7 +199,7 @@ module _ (k : Key) (s : ℕ) (ek : isKey k ≡ true) (es : isSize s ≡ true) wh
         let e = long local .long in
         combine-passes (t .local) (t .remote) out
         (pair-pass (length (t .local)) (length (t .remote)) (length out) (ap isSize e ∙ es) (long remote .long ∙ sym e) (size ∙ sym e))
-        refl (sym (lawful .sum (tweak address) P plain))
+        refl (sym (lawful .sum (tweak 0 address) P plain))
 
 pub demand-2 : Demand2-whole
 demand-2 k s ek es = record {

@@ -20,13 +20,13 @@ use Rattle.sector.specs.Calls.{sealCall, judgeCall, combineCall}
 
 module _ (k : List ℕ) (address : ℕ) (t : Triple) (out : List ℕ) {c : Done}
     (checked : firstOf (partsRules (keyFrom k) (length (t .local)) (length (t .remote)) (length out) (length (t .tag))) ≡ doneOption c) where
-  pub judge-passes : c ≡ D.Done → {a : ℕ × List ℕ} → verdictOutcome (judge (scheme (keyFrom k)) (tweak address) t) out ≡ a → judgeCall (keyFrom k) address t out ≡ a
+  pub judge-passes : c ≡ D.Done → {a : ℕ × List ℕ} → verdictOutcome (judge (scheme (keyFrom k)) (tweak 0 address) t) out ≡ a → judgeCall (keyFrom k) address t out ≡ a
   unfolding judgeCall
-  judge-passes ok ea = settle-none (verdictOutcome (judge (scheme (keyFrom k)) (tweak address) t) out) out (checked ∙ ap doneOption ok) ∙ ea
+  judge-passes ok ea = settle-none (verdictOutcome (judge (scheme (keyFrom k)) (tweak 0 address) t) out) out (checked ∙ ap doneOption ok) ∙ ea
 
   pub judge-refuses : {f : Refusal} → c ≡ D.Refused f → judgeCall (keyFrom k) address t out ≡ (refusalNumber f, out)
   unfolding judgeCall
-  judge-refuses refused = settle-some (verdictOutcome (judge (scheme (keyFrom k)) (tweak address) t) out) out (checked ∙ ap doneOption refused)
+  judge-refuses refused = settle-some (verdictOutcome (judge (scheme (keyFrom k)) (tweak 0 address) t) out) out (checked ∙ ap doneOption refused)
 
 module _ (k : List ℕ) (address : ℕ) (P : List ℕ) (out : Triple) {c : Done}
     (checked : firstOf (partsRules (keyFrom k) (length P) (length (out .local)) (length (out .remote)) (length (out .tag))) ≡ doneOption c) where

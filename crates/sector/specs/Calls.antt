@@ -25,7 +25,7 @@ unfoldable pub judgeCall : Key → ℕ → Triple → List ℕ → ℕ × List �
 judgeCall k address t out =
     settle
     (firstOf (partsRules k (length (t .local)) (length (t .remote)) (length out) (length (t .tag))))
-    (verdictOutcome (judge (scheme k) (tweak address) t) out) out
+    (verdictOutcome (judge (scheme k) (tweak 0 address) t) out) out
 
 -- ---- open and rebuild, of the side with the number d: 0 is local, 1 remote
 
@@ -38,7 +38,7 @@ abbrev pub openWith : (List ℕ → List ℕ) → Key → ℕ → ℕ → List �
 openWith f k address d x g out =
     settle
     (firstOf (openRules k (length x) (length out) (length g) d))
-    (openOutcome f (opened (scheme k) (tweak address) (sideOf d) g x) out) out
+    (openOutcome f (opened (scheme k) (tweak 0 address) (sideOf d) g x) out) out
 
 unfoldable pub openCall : Key → ℕ → ℕ → List ℕ → List ℕ → List ℕ → ℕ × List ℕ
 openCall = openWith (λ P. P)

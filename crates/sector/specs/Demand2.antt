@@ -27,10 +27,10 @@ pub record SealsTo (k : Key) (s address : ℕ) (d : Side) (x g P : List ℕ) : T
 -- judging answers 0 and the plaintext exactly if whole, `81`, `82` or `83` and the plaintext exactly if doubtful at that place, and 6 or 7
 -- with the output as it was exactly if lost or clashing
 pub record Judges (k : Key) (s address : ℕ) (t : Triple) (out : List ℕ) : Type 0 where
-  pub at-whole : (P : List ℕ) → (judgeCall k address t out ≡ (0, P)) ↔ Means s (scheme k) (tweak address) t (whole P)
-  pub at-doubtful : (d : Place) (P : List ℕ) → (judgeCall k address t out ≡ (doubtNumber d, P)) ↔ Means s (scheme k) (tweak address) t (doubtful d P)
-  pub at-lost : (judgeCall k address t out ≡ (6, out)) ↔ Means s (scheme k) (tweak address) t lost
-  pub at-clashing : (judgeCall k address t out ≡ (7, out)) ↔ Means s (scheme k) (tweak address) t clashing
+  pub at-whole : (P : List ℕ) → (judgeCall k address t out ≡ (0, P)) ↔ Means s (scheme k) (tweak 0 address) t (whole P)
+  pub at-doubtful : (d : Place) (P : List ℕ) → (judgeCall k address t out ≡ (doubtNumber d, P)) ↔ Means s (scheme k) (tweak 0 address) t (doubtful d P)
+  pub at-lost : (judgeCall k address t out ≡ (6, out)) ↔ Means s (scheme k) (tweak 0 address) t lost
+  pub at-clashing : (judgeCall k address t out ≡ (7, out)) ↔ Means s (scheme k) (tweak 0 address) t clashing
 
 -- opening gives P exactly for the sealed sectors and tags of that key, address and side, and answers 5 with the output as it was exactly
 -- if no plaintext fits both

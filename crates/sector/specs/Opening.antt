@@ -19,4 +19,4 @@ openedAs wanted S T d x g out = openOutcome (wantedOf wanted S T d) (opened S T 
 
 -- with the refusals 1 to 4
 abbrev pub openAs : Wanted → Key → ℕ → ℕ → List ℕ → List ℕ → List ℕ → ℕ × List ℕ
-openAs wanted k address d x g out = openWith (wantedOf wanted (scheme k) (tweak address) (sideOf d)) k address d x g out
+openAs wanted k address d x g out = openWith (wantedOf wanted (scheme k) (tweak 0 address) (sideOf d)) k address d x g out

@@ -30,11 +30,11 @@ fn judge_checked(
     out: &mut [u8],
 ) -> Judged
     requires { ⌜ (isKey (keyFrom (now key)) ≡ true) × Sizes (length (now local)) (length (now remote)) (length (now out)) (length (now tag)) ⌝ }
-    ensures { λ r. ⌜ verdictOutcome (W.judge (scheme (keyFrom (now (key .entry)))) (tweak address) (triple (now (local .entry)) (now (tag .entry)) (now (remote .entry)))) (now (out .entry)) ≡ (judgedNumber r, now (out .exit)) ⌝ }
+    ensures { λ r. ⌜ verdictOutcome (W.judge (scheme (keyFrom (now (key .entry)))) (tweak 0 address) (triple (now (local .entry)) (now (tag .entry)) (now (remote .entry)))) (now (out .entry)) ≡ (judgedNumber r, now (out .exit)) ⌝ }
 {
     let t = aes::table();
     let k = mode::prepare(&t, key);
-    let ctx = mode::context_at(k.masks, address);
+    let ctx = mode::context_at(k.masks, 0, address);
     let s = local.len();
     let mut sum = [0u8; 4096];
     let mut scratch = [0u8; 4096];
@@ -102,7 +102,7 @@ fn seal_checked(
 {
     let t = aes::table();
     let k = mode::prepare(&t, key);
-    let ctx = mode::context_at(k.masks, address);
+    let ctx = mode::context_at(k.masks, 0, address);
     seal_in(&t, &k.words, &k.powers, ctx, p, local, tag, remote);
 }
 
@@ -199,11 +199,11 @@ fn open_checked(
     out: &mut [u8],
 ) -> Done
     requires { ⌜ (isKey (keyFrom (now key)) ≡ true) × Sizes (length (now x)) (length (now out)) (length (now out)) (length (now tag)) ⌝ }
-    ensures { λ r. ⌜ openedAs wanted (scheme (keyFrom (now (key .entry)))) (tweak address) (sideNamed side) (now (x .entry)) (now (tag .entry)) (now (out .entry)) ≡ (doneNumber r, now (out .exit)) ⌝ }
+    ensures { λ r. ⌜ openedAs wanted (scheme (keyFrom (now (key .entry)))) (tweak 0 address) (sideNamed side) (now (x .entry)) (now (tag .entry)) (now (out .entry)) ≡ (doneNumber r, now (out .exit)) ⌝ }
 {
     let t = aes::table();
     let k = mode::prepare(&t, key);
-    let ctx = mode::context_at(k.masks, address);
+    let ctx = mode::context_at(k.masks, 0, address);
     let s = x.len();
     let mut scratch = [0u8; 4096];
     open_in(

@@ -238,9 +238,9 @@ module _ (w : ℕ → Verdict) (n : ℕ) where
 
 -- ---- the prepared key
 
-pub verdict-by : (w p : List ℕ) (ctx : Context) (s i : ℕ) (l g r out new : List ℕ) (j : Judged) → value (ctx .tweak) ≡ tweak i
-    → judgedBy w p ctx (part s i l) (part 16 i g) (part s i r) out ≡ (judgedNumber j, new) → Tells j (verdictBy (schemeOf w p) s l g r i)
-verdict-by w p ctx s i l g r out new j em e = record {
+pub verdict-by : (w p : List ℕ) (ctx : Context) (volume s i : ℕ) (l g r out new : List ℕ) (j : Judged) → value (ctx .tweak) ≡ tweak volume i
+    → judgedBy w p ctx (part s i l) (part 16 i g) (part s i r) out ≡ (judgedNumber j, new) → Tells j (verdictBy (schemeOf w p) volume s l g r i)
+verdict-by w p ctx volume s i l g r out new j em e = record {
   number =
       ap (λ (x : ℕ × List ℕ). x .0) (sym e)
       ∙ outcome-number (judge (schemeOf w p) (value (ctx .tweak)) (placesOf s i l g r)) out
@@ -248,6 +248,6 @@ verdict-by w p ctx s i l g r out new j em e = record {
 }
 
 pub survey-keyed : {k : Key} {t w p : List ℕ} {alpha beta : Block} → PreparedFor k t w p alpha beta → (s n : ℕ) (l g x list : List ℕ) {a : Report × List ℕ}
-    → surveyed (verdictBy (schemeOf w p) s l g x) n list ≡ a → surveyed (verdictAt (mirror k) s (triple l g x)) n list ≡ a
+    → surveyed (verdictBy (schemeOf w p) 0 s l g x) n list ≡ a → surveyed (verdictAt (mirror k) s (triple l g x)) n list ≡ a
 unfolding judge grade fitsTwo fits candidate mirror sealed scheme dcm
-survey-keyed e s n l g x list d = sym (ap (λ (S : Scheme). surveyed (verdictBy S s l g x) n list) (scheme-is e)) ∙ d
+survey-keyed e s n l g x list d = sym (ap (λ (S : Scheme). surveyed (verdictBy S 0 s l g x) n list) (scheme-is e)) ∙ d

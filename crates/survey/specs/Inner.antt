@@ -17,9 +17,9 @@ use Rattle.report.specs.declared.Counts.{Counts}
 use Rattle.report.specs.Inner.{addIf}
 use Rattle.report.specs.Survey.{chosen, numbers, tally, health, countsOf}
 
--- the verdicts by the mode, with the tweak of each number
-abbrev pub verdictBy : Scheme → ℕ → List ℕ → List ℕ → List ℕ → ℕ → Verdict
-verdictBy S s l g r i = judge S (tweak i) (placesOf s i l g r)
+-- the verdicts by the mode, with the tweak of the volume and of each sector's number
+abbrev pub verdictBy : Scheme → ℕ → ℕ → List ℕ → List ℕ → List ℕ → ℕ → Verdict
+verdictBy S volume s l g r i = judge S (tweak volume i) (placesOf s i l g r)
 
 -- the code's answer is that of the verdict w
 pub record Tells (j : Judged) (w : Verdict) : Type 0 where

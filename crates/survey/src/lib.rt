@@ -26,6 +26,7 @@ fn judge_at<'k>(
     w: &'k [u32],
     powers: &'k [u64; 18],
     masks: Masks,
+    volume: u64,
     s: usize,
     i: usize,
     local: &[u8],
@@ -36,9 +37,9 @@ fn judge_at<'k>(
     scratch: &mut [u8],
 ) -> Judged
     requires { ⌜ KeyReady (now t) (now w) (now powers) (masks .alpha) (masks .beta) × Within s i (length (now local)) (length (now tags)) (length (now remote)) × Scratch s (now plain) (now sum) (now scratch) ⌝ }
-    ensures { λ r. ⌜ Tells r (verdictBy (schemeOf (now (w .entry)) (now (powers .entry))) s (now (local .entry)) (now (tags .entry)) (now (remote .entry)) i) ⌝ }
+    ensures { λ r. ⌜ Tells r (verdictBy (schemeOf (now (w .entry)) (now (powers .entry))) volume s (now (local .entry)) (now (tags .entry)) (now (remote .entry)) i) ⌝ }
 {
-    let ctx = mode::context_at(masks, i as u64);
+    let ctx = mode::context_at(masks, volume, i as u64);
     images::judge_part(
         t,
         w,
@@ -112,6 +113,7 @@ fn judge_all<'k>(
     w: &'k [u32],
     powers: &'k [u64; 18],
     masks: Masks,
+    volume: u64,
     s: usize,
     n: usize,
     local: &[u8],
@@ -125,7 +127,7 @@ fn judge_all<'k>(
     scratch: &mut [u8],
 ) -> Counts
     requires { ⌜ KeyReady (now t) (now w) (now powers) (masks .alpha) (masks .beta) × Room s n (length (now local)) (length (now tags)) (length (now remote)) × Empty n (maps (now lost) (now clashing) (now doubtful)) × Scratch s (now plain) (now sum) (now scratch) ⌝ }
-    ensures { λ r. ⌜ AllJudged (verdictBy (schemeOf (now (w .entry)) (now (powers .entry))) s (now (local .entry)) (now (tags .entry)) (now (remote .entry))) n r (maps (now (lost .exit)) (now (clashing .exit)) (now (doubtful .exit))) ⌝ }
+    ensures { λ r. ⌜ AllJudged (verdictBy (schemeOf (now (w .entry)) (now (powers .entry))) volume s (now (local .entry)) (now (tags .entry)) (now (remote .entry))) n r (maps (now (lost .exit)) (now (clashing .exit)) (now (doubtful .exit))) ⌝ }
 {
     let mut counts = Counts {
         whole: 0,
@@ -141,6 +143,7 @@ fn judge_all<'k>(
             w,
             powers,
             masks,
+            volume,
             s,
             i,
             local,
@@ -192,6 +195,7 @@ fn survey_in<'k>(
     w: &'k [u32],
     powers: &'k [u64; 18],
     masks: Masks,
+    volume: u64,
     s: usize,
     n: usize,
     local: &[u8],
@@ -203,7 +207,7 @@ fn survey_in<'k>(
     scratch: &mut [u8],
 ) -> Counts
     requires { ⌜ KeyReady (now t) (now w) (now powers) (masks .alpha) (masks .beta) × Room s n (length (now local)) (length (now tags)) (length (now remote)) × (n ≤ length (now list)) × Scratch s (now plain) (now sum) (now scratch) ⌝ }
-    ensures { λ r. ⌜ surveyed (verdictBy (schemeOf (now (w .entry)) (now (powers .entry))) s (now (local .entry)) (now (tags .entry)) (now (remote .entry))) n (now (list .entry)) ≡ (counted r, now (list .exit)) ⌝ }
+    ensures { λ r. ⌜ surveyed (verdictBy (schemeOf (now (w .entry)) (now (powers .entry))) volume s (now (local .entry)) (now (tags .entry)) (now (remote .entry))) n (now (list .entry)) ≡ (counted r, now (list .exit)) ⌝ }
 {
     let mut lost = [0u64; 1024];
     let mut clashing = [0u64; 1024];
@@ -213,6 +217,7 @@ fn survey_in<'k>(
         w,
         powers,
         masks,
+        volume,
         s,
         n,
         local,
@@ -235,6 +240,7 @@ fn survey_prepared<'k>(
     w: &'k [u32],
     powers: &'k [u64; 18],
     masks: Masks,
+    volume: u64,
     s: usize,
     n: usize,
     local: &[u8],
@@ -243,7 +249,7 @@ fn survey_prepared<'k>(
     list: &mut [u32],
 ) -> Counts
     requires { ⌜ KeyReady (now t) (now w) (now powers) (masks .alpha) (masks .beta) × Room s n (length (now local)) (length (now tags)) (length (now remote)) × (n ≤ length (now list)) ⌝ }
-    ensures { λ r. ⌜ surveyed (verdictBy (schemeOf (now (w .entry)) (now (powers .entry))) s (now (local .entry)) (now (tags .entry)) (now (remote .entry))) n (now (list .entry)) ≡ (counted r, now (list .exit)) ⌝ }
+    ensures { λ r. ⌜ surveyed (verdictBy (schemeOf (now (w .entry)) (now (powers .entry))) volume s (now (local .entry)) (now (tags .entry)) (now (remote .entry))) n (now (list .entry)) ≡ (counted r, now (list .exit)) ⌝ }
 {
     let mut plain = [0u8; 4096];
     let mut sum = [0u8; 4096];
@@ -253,6 +259,7 @@ fn survey_prepared<'k>(
         w,
         powers,
         masks,
+        volume,
         s,
         n,
         local,
@@ -284,6 +291,7 @@ fn survey_checked(
         &k.words,
         &k.powers,
         k.masks,
+        0,
         s,
         n,
         local,

@@ -14,7 +14,7 @@ use Rattle.images.specs.Lent.{placesOf}
 use Rattle.stages.specs.Inner.{sealInto, lateOutcome}
 
 -- the mirror at a number is the mode at its tweak
-late-mirror : (K : Key) (s i : ℕ) (v : Triple) (c : Call) → lateOutcome (scheme K) (tweak i) s i v c ≡ lateOutcome (mirror K) i s i v c
+late-mirror : (K : Key) (s i : ℕ) (v : Triple) (c : Call) → lateOutcome (scheme K) (tweak 0 i) s i v c ≡ lateOutcome (mirror K) i s i v c
 unfolding lateOutcome sealInto judge grade fitsTwo fits candidate mirror sealed scheme dcm
 late-mirror K s i v blank = refl
 late-mirror K s i v (first P) = refl
@@ -24,7 +24,7 @@ late-mirror K s i v mend = refl
 late-mirror K s i v (read o) = refl
 
 -- what is prepared of the key K, and the tweak T of the number i
-module _ {K : Key} {t w p : List ℕ} {alpha beta : Block} (e : PreparedFor K t w p alpha beta) {T : ℕ} (i : ℕ) (eT : T ≡ tweak i) where
+module _ {K : Key} {t w p : List ℕ} {alpha beta : Block} (e : PreparedFor K t w p alpha beta) {T : ℕ} (i : ℕ) (eT : T ≡ tweak 0 i) where
   pub late-keyed : (s : ℕ) (v : Triple) (c : Call) {x : ℕ × Triple} → lateOutcome (schemeOf w p) T s i v c ≡ x → lateOutcome (mirror K) i s i v c ≡ x
   late-keyed s v c x = sym (keyed e eT (λ S U. lateOutcome S U s i v c) ∙ late-mirror K s i v c) ∙ x
 

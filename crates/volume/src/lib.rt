@@ -30,7 +30,7 @@ fn read_checked(
 {
     let t = aes::table();
     let k = mode::prepare(&t, key);
-    let ctx = mode::context_at(k.masks, i as u64);
+    let ctx = mode::context_at(k.masks, 0, i as u64);
     let mut sum = [0u8; 4096];
     let mut scratch = [0u8; 4096];
     images::judge_part(
@@ -62,7 +62,7 @@ fn first_checked(
 {
     let t = aes::table();
     let k = mode::prepare(&t, key);
-    let ctx = mode::context_at(k.masks, i as u64);
+    let ctx = mode::context_at(k.masks, 0, i as u64);
     let s = p.len();
     let mut plain = [0u8; 4096];
     let mut sum = [0u8; 4096];
@@ -96,7 +96,7 @@ fn second_checked(
 {
     let t = aes::table();
     let k = mode::prepare(&t, key);
-    let ctx = mode::context_at(k.masks, i as u64);
+    let ctx = mode::context_at(k.masks, 0, i as u64);
     let s = p.len();
     let mut scratch = [0u8; 4096];
     stages::second_in(
@@ -126,7 +126,7 @@ fn third_checked(
 {
     let t = aes::table();
     let k = mode::prepare(&t, key);
-    let ctx = mode::context_at(k.masks, i as u64);
+    let ctx = mode::context_at(k.masks, 0, i as u64);
     let s = p.len();
     let mut scratch = [0u8; 4096];
     stages::third_in(
@@ -156,7 +156,7 @@ fn blank_checked(
 {
     let t = aes::table();
     let k = mode::prepare(&t, key);
-    let ctx = mode::context_at(k.masks, i as u64);
+    let ctx = mode::context_at(k.masks, 0, i as u64);
     stages::write_all(&t, &k.words, &k.powers, ctx, p, i, local, tags, remote);
 }
 
@@ -173,7 +173,7 @@ fn mend_checked(
 {
     let t = aes::table();
     let k = mode::prepare(&t, key);
-    let ctx = mode::context_at(k.masks, i as u64);
+    let ctx = mode::context_at(k.masks, 0, i as u64);
     let mut plain = [0u8; 4096];
     let mut sum = [0u8; 4096];
     let mut scratch = [0u8; 4096];

@@ -7,7 +7,9 @@ use Rattle.mode.proofs.context_at.Tie as tie
 
 returns : tie.Need-returns
 unfolding value
-returns c = (refl, refl, tweak-is (c .before .before .args .address) (omega arith))
+returns c =
+    let a = c .before .before .args in
+    (refl, refl, tweak-is (a .volume) (a .address) (omega arith) (omega arith))
 
 pub context-at-spec : {M : Type 1} → statement M
 context-at-spec = tie.close (tie.spec returns)

@@ -10,11 +10,11 @@ use Rattle.survey.proofs.judge_all.Statement.{statement}
 use Rattle.survey.proofs.judge_all.Tie as tie
 
 abbrev Inv-loop : tie.InvT-loop
-Inv-loop t w powers masks s n local tags remote lost₀ clashing₀ doubtful₀ plain₀ sum₀ scratch₀ counts₀ i₀ lost clashing doubtful plain sum scratch counts i =
-    Loop (verdictBy (schemeOf w powers) s local tags remote) n i counts (maps lost clashing doubtful) × Scratch s plain sum scratch × SameSizes (maps lost₀ clashing₀ doubtful₀) (maps lost clashing doubtful)
+Inv-loop t w powers masks volume s n local tags remote lost₀ clashing₀ doubtful₀ plain₀ sum₀ scratch₀ counts₀ i₀ lost clashing doubtful plain sum scratch counts i =
+    Loop (verdictBy (schemeOf w powers) volume s local tags remote) n i counts (maps lost clashing doubtful) × Scratch s plain sum scratch × SameSizes (maps lost₀ clashing₀ doubtful₀) (maps lost clashing doubtful)
 
 abbrev μ-loop : tie.MeasureT-loop
-μ-loop t w powers masks s n local tags remote lost₀ clashing₀ doubtful₀ plain₀ sum₀ scratch₀ counts₀ i₀ lost clashing doubtful plain sum scratch counts i =
+μ-loop t w powers masks volume s n local tags remote lost₀ clashing₀ doubtful₀ plain₀ sum₀ scratch₀ counts₀ i₀ lost clashing doubtful plain sum scratch counts i =
     n - i
 
 loop-holds : tie.Need-loop-holds Inv-loop μ-loop

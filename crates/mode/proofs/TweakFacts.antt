@@ -1,0 +1,30 @@
+-- The tweak of a number and an address. Assumes nothing.
+use mathlib.Core.Path.{_≡_, refl, sym, ap, _∙_}
+use mathlib.Core.List.{List, _++_}
+use Prim.Native.Nat.{ℕ, _+_, _*_, _/_, _%_, _^_, _<_}
+use lib.Arith.{digits-div, digits-mod}
+use Rattle.block.specs.Bytes.{toBytes}
+use Rattle.block.proofs.Numbers.{toBytes-two}
+use Rattle.mode.specs.Sealing.{Key, tweak, sealed}
+use Rattle.mode.specs.TweakFacts.{tweakBefore, sealedBefore, TweakFacts}
+use Rattle.mode.proofs.Laws.{tweak-is}
+
+halves : (volume address : ℕ) → volume < 2 ^ 64 → address < 2 ^ 64 → toBytes 16 (tweak volume address) ≡ toBytes 8 volume ++ toBytes 8 address
+halves volume address hv ha = ap (toBytes 16) (sym (tweak-is volume address hv ha)) ∙ toBytes-two volume address ha
+
+number-0 : (address : ℕ) → tweak 0 address ≡ tweakBefore address
+unfolding tweak toBytes
+number-0 address = refl
+
+seals-as-before : (k : Key) (address : ℕ) (P : List ℕ) → sealed k address P ≡ sealedBefore k address P
+unfolding sealed tweak toBytes
+seals-as-before k address P = refl
+
+one-pair : (volume address number at : ℕ) → volume < 2 ^ 64 → address < 2 ^ 64 → number < 2 ^ 64 → at < 2 ^ 64
+    → tweak volume address ≡ tweak number at → (volume ≡ number) × (address ≡ at)
+one-pair volume address number at hv ha hn hb e =
+    let same : volume * 2 ^ 64 + address ≡ number * 2 ^ 64 + at = tweak-is volume address hv ha ∙ e ∙ sym (tweak-is number at hn hb) in
+    (sym (digits-div volume ha) ∙ ap (λ (x : ℕ). x / 2 ^ 64) same ∙ digits-div number hb, sym (digits-mod volume ha) ∙ ap (λ (x : ℕ). x % 2 ^ 64) same ∙ digits-mod number hb)
+
+pub tweak-facts : TweakFacts
+tweak-facts = record { halves = halves; number-0 = number-0; seals-as-before = seals-as-before; one-pair = one-pair }

@@ -1,0 +1,26 @@
+-- What the tweak of Sealing.antt comes to (change request S-2): one statement, proved as `tweak-facts`.
+use mathlib.Core.Path.{_≡_}
+use mathlib.Core.List.{List, _++_}
+use Prim.Native.Nat.{ℕ, _^_, _<_}
+use lib.ListN.{replicate}
+use Rattle.block.specs.Bytes.{fromBytes, toBytes}
+use Rattle.fips197.specs.Aes.{cipherNumber}
+use Rattle.mode.specs.Sealing.{Key, Triple, hashKey, roundKeys, tweak, sealedBy, sealed}
+
+-- document 01's tweak, before there were numbers: the address as a block, its upper 8 bytes zero
+abbrev pub tweakBefore : ℕ → ℕ
+tweakBefore address = fromBytes (replicate 8 0 ++ toBytes 8 address)
+
+-- and what P sealed to
+abbrev pub sealedBefore : Key → ℕ → List ℕ → Triple
+sealedBefore k address P = sealedBy (cipherNumber (roundKeys k)) (hashKey k) (tweakBefore address) P
+
+pub record TweakFacts : Type 0 where
+  -- its 16 bytes are the number's 8 and then the address's 8
+  pub halves : (volume address : ℕ) → volume < 2 ^ 64 → address < 2 ^ 64 → toBytes 16 (tweak volume address) ≡ toBytes 8 volume ++ toBytes 8 address
+  -- number 0 gives the block of before, so every sealing under it is the one of before
+  pub number-0 : (address : ℕ) → tweak 0 address ≡ tweakBefore address
+  pub seals-as-before : (k : Key) (address : ℕ) (P : List ℕ) → sealed k address P ≡ sealedBefore k address P
+  -- another number or another address gives another tweak
+  pub one-pair : (volume address number at : ℕ) → volume < 2 ^ 64 → address < 2 ^ 64 → number < 2 ^ 64 → at < 2 ^ 64
+      → tweak volume address ≡ tweak number at → (volume ≡ number) × (address ≡ at)
