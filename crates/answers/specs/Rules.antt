@@ -44,22 +44,23 @@ settle o after before = settleBy (λ n. n) o after before
 
 -- ---- what a call on a volume takes
 
--- a volume's key, the size s and the count n
+-- a volume's key and number, the size s and the count n
 pub record Volume : Type 0 where
   pub key : Key
+  pub number : ℕ
   pub size : ℕ
   pub count : ℕ
 
-abbrev pub volumeOf : Key → ℕ → ℕ → Volume
-volumeOf k s n = record { key = k; size = s; count = n }
+abbrev pub volumeOf : Key → ℕ → ℕ → ℕ → Volume
+volumeOf k volume s n = record { key = k; number = volume; size = s; count = n }
 
 -- these, and a sector's number
 pub record Args : Type 0 where
   pub volume : Volume
   pub number : ℕ
 
-abbrev pub args : Key → ℕ → ℕ → ℕ → Args
-args k s n i = record { volume = volumeOf k s n; number = i }
+abbrev pub args : Key → ℕ → ℕ → ℕ → ℕ → Args
+args k volume s n i = record { volume = volumeOf k volume s n; number = i }
 
 -- n from 1 to 65,536, two images of n times s bytes, and tags of n times 16
 unfoldable pub shape : ℕ → ℕ → ℕ → ℕ → ℕ → Bool

@@ -23,14 +23,14 @@ module _ (f out : List ℕ) where
   s = length out
 
   pub judged-is : (address : ℕ) {m : ℕ} {o : List ℕ} → length f ≡ 57 + 2 * s → address ≡ fromBytes (field 33 8 f)
-      → judgeCall (keyFrom (midOf 1 (33 - 1) f)) address (triple (midOf 41 (41 + s - 41) f) (midOf (41 + s) (57 + s - (41 + s)) f) (midOf (57 + s) (length f - (57 + s)) f)) out ≡ (m, o)
+      → judgeCall (keyFrom (midOf 1 (33 - 1) f)) 0 address (triple (midOf 41 (41 + s - 41) f) (midOf (41 + s) (57 + s - (41 + s)) f) (midOf (57 + s) (length f - (57 + s)) f)) out ≡ (m, o)
       → judged f out ≡ (m, o)
   unfolding judged
   judged-is address h ea e =
       let p : s ≡ 41 + s - 41 = omega arith in
       let q : 16 ≡ 57 + s - (41 + s) = omega arith in
       let r : s ≡ length f - (57 + s) = omega arith in
-      (λ i. judgeCall (keyFrom (field 1 32 f)) (sym ea i) (triple (field 41 (p i) f) (field (41 + s) (q i) f) (field (57 + s) (r i) f)) out)
+      (λ i. judgeCall (keyFrom (field 1 32 f)) 0 (sym ea i) (triple (field 41 (p i) f) (field (41 + s) (q i) f) (field (57 + s) (r i) f)) out)
       ∙ e
 
   pub combined-is : {n m : ℕ} {o : List ℕ} → length f ≡ 1 + 2 * s

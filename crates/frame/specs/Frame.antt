@@ -33,11 +33,11 @@ half f = together f / 2
 abbrev pub field : ℕ → ℕ → List ℕ → List ℕ
 field a n f = take n (drop a f)
 
--- Judge for a frame 01, Combine for a frame 02, with an output as long as a sector: the answer's number and the output afterwards
+-- Judge under the volume's number 0 for a frame 01, Combine for a frame 02, with an output as long as a sector: the answer's number and the output afterwards
 unfoldable pub judged : List ℕ → List ℕ → ℕ × List ℕ
 judged f out =
     let s : ℕ = length out in
-    judgeCall (keyFrom (field 1 32 f)) (fromBytes (field 33 8 f)) (triple (field 41 s f) (field (41 + s) 16 f) (field (57 + s) s f)) out
+    judgeCall (keyFrom (field 1 32 f)) 0 (fromBytes (field 33 8 f)) (triple (field 41 s f) (field (41 + s) 16 f) (field (57 + s) s f)) out
 
 unfoldable pub combined : List ℕ → List ℕ → ℕ × List ℕ
 combined f out = let s : ℕ = length out in combineCall (field 1 s f) (field (1 + s) s f) out

@@ -65,7 +65,7 @@ pub fn check_frame(frame: &[u8]) -> Done
 
 // ---- the call
 
-// Judges a frame 01: its parts are lent on, and the plaintext goes to `plain`.
+// Judges a frame 01, which has no volume's number, under 0: its parts are lent on, and the plaintext goes to `plain`.
 fn judge_frame(frame: &[u8], plain: &mut [u8]) -> Judged
     requires { ⌜ length (now frame) ≡ 57 + 2 * length (now plain) ⌝ }
     ensures { λ r. ⌜ judged (now (frame .entry)) (now (plain .entry)) ≡ (judgedNumber r, now (plain .exit)) ⌝ }
@@ -75,6 +75,7 @@ fn judge_frame(frame: &[u8], plain: &mut [u8]) -> Judged
     let remote = 57 + s;
     sector::judge(
         &frame[1..33],
+        0,
         block::load_word(frame, 33),
         &frame[41..tag],
         &frame[tag..remote],

@@ -15,12 +15,12 @@ unfolding mirror sealed scheme dcm
 mirror-sound vol ek es =
     let L : Lawful (vol .size) (scheme (vol .key)) = sound .lawful (vol .key) (vol .size) ek es in
     record {
-      shape = λ a P p. L .shape (tweak 0 a) P p;
-      left = λ a P p. L .left (tweak 0 a) P p;
-      right = λ a P p. L .right (tweak 0 a) P p;
-      onto-left = λ a g x p q e. L .onto-left (tweak 0 a) g x p q e;
-      onto-right = λ a g x p q e. L .onto-right (tweak 0 a) g x p q e;
-      sum = λ a P p. L .sum (tweak 0 a) P p;
+      shape = λ a P p. L .shape (tweak (vol .number) a) P p;
+      left = λ a P p. L .left (tweak (vol .number) a) P p;
+      right = λ a P p. L .right (tweak (vol .number) a) P p;
+      onto-left = λ a g x p q e. L .onto-left (tweak (vol .number) a) g x p q e;
+      onto-right = λ a g x p q e. L .onto-right (tweak (vol .number) a) g x p q e;
+      sum = λ a P p. L .sum (tweak (vol .number) a) P p;
       plain-local = L .plain-local;
       plain-remote = L .plain-remote;
     }

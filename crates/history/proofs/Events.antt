@@ -30,7 +30,7 @@ put-other i x h j n = ap (λ (u : Bool). cond u x (h j)) (ne-eqb j i n)
 
 -- ---- arguments
 
--- the volume's key, s and n, and the number i
+-- the volume's key, number, s and n, and the sector's number i
 abbrev pub argsOf : Volume → ℕ → Args
 argsOf vol i = record { volume = vol; number = i }
 

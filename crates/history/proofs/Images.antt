@@ -107,7 +107,7 @@ module _ (seals : Schemes) (v : Triple) (a : Args) (c : Call) where
   leaves-refused (cut t) k e = ap (λ (r : Option ℕ). unless r v (accepted (cut t))) e
 
 module _ (seals : Schemes) (v : Triple) (a : Args) (c : Call) (f : Fate) (w : Triple) where
-  -- what the call, with its own key, s and n, leaves: the other sectors as they were, its own, and images w of the same lengths
+  -- what the call, with its own key, number, s and n, leaves: the other sectors as they were, its own, and images w of the same lengths
   pub record Left : Type 0 where
     pub others : (j : ℕ) → (j ≡ a .number → ⊥) → sectorOf (a .volume .size) j w ≡ sectorOf (a .volume .size) j v
     pub mine : sector w a ≡ sectorAfter (a .volume .size) (sealing seals a) (a .number) (sector v a) c f

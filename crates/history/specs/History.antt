@@ -16,7 +16,7 @@ use Rattle.history.specs.Volume.{Call, first, mend, read, sectorOf, earl
 use Rattle.history.specs.Machine.{Held, gone, kept, State, start}
 use Rattle.history.specs.Power.{Fate, Event, call, Images, LentBytes, leavesCall, Allowed, AllAllowed, run, hold}
 
--- document 01's "proper" call, on sector i: it takes the volume's key, s and n, and none of the early refusals turns it away
+-- document 01's "proper" call, on sector i: it takes the volume's key, number, s and n, and none of the early refusals turns it away
 pub record Proper (vol : Volume) (v : Triple) (i : ℕ) (a : Args) (c : Call) : Type 0 where
   pub takes : a .volume ≡ vol
   pub names : a .number ≡ i
@@ -34,7 +34,7 @@ at vol v i = sectorOf (vol .size) i v
 module _ (seals : Schemes) (vol : Volume) where
   -- the volume's sealing
   abbrev pub own : Scheme
-  own = seals (vol .key)
+  own = seals (vol .key) (vol .number)
 
   -- another plaintext than P fits two places of sector i
   abbrev pub Another : Triple → ℕ → List ℕ → Type 0

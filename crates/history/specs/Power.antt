@@ -94,7 +94,7 @@ module _ (seals : Schemes) where
         called a c (isRefused (refusal seals v a c)) (told (sealing seals a) (a .number) (sector (leavesCall v a c f) a) c f)
     seen v (damage p i b) = damaged p i
 
-    -- every call takes the volume's key, s and n but one that is or would be refused
+    -- every call takes the volume's key, number, s and n but one that is or would be refused
     abbrev pub Allowed : Triple → Event → Type 0
     Allowed v (call a c f) = (refusal seals v a c ≡ none → a .volume ≡ vol) × LentBytes c × CutOf (vol .size) f
     Allowed v (damage p i b) = (i < vol .count) × Plain (wide (vol .size) p) b

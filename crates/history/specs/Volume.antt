@@ -13,9 +13,9 @@ use Rattle.verdict.specs.Judging.{verdictRefusal, verdictDoubt, verdictPlain}
 use Rattle.answers.specs.Rules.{Rule, rule, firstOf, rulesOf, Args, lengthRules, sectorRules, isShape}
 use Rattle.history.specs.Answers.{Answer, done, gives, found, reply, isWhole, answerNumber, output}
 
--- what seals the sectors of volumes: a scheme for each key
+-- what seals the sectors of volumes: a scheme for each key and number
 abbrev pub Schemes : Type 0
-Schemes = Key → Scheme
+Schemes = Key → ℕ → Scheme
 
 -- ---- three images
 
@@ -129,7 +129,7 @@ sector v a = sectorOf (a .volume .size) (a .number) v
 module _ (seals : Schemes) where
   -- the sealing that a call uses
   abbrev pub sealing : Args → Scheme
-  sealing a = seals (a .volume .key)
+  sealing a = seals (a .volume .key) (a .volume .number)
 
   -- the sector's number is its address
   unfoldable pub refusal : Triple → Args → Call → Option ℕ
@@ -157,6 +157,6 @@ module _ (seals : Schemes) where
   unfoldable pub readOutcome : Triple → Args → List ℕ → ℕ × List ℕ
   readOutcome v a out = let r = answer v a (read (length out)) in (answerNumber r, output r out)
 
--- the mode, with a sector's number for its address
+-- the mode, with the volume's number, and a sector's number for its address
 unfoldable pub mirror : Schemes
-mirror k = record { sealed = sealed k; openLocal = scheme k .openLocal; openRemote = scheme k .openRemote }
+mirror k volume = record { sealed = sealed k volume; openLocal = scheme k .openLocal; openRemote = scheme k .openRemote }

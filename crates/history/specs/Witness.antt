@@ -14,7 +14,7 @@ use Rattle.history.specs.Machine.{Held, kept, start}
 use Rattle.history.specs.Power.{Event, Images, AllAllowed, run, hold}
 use Rattle.history.specs.History.{Proper, ProperRead}
 
--- a key, a size and a count that the calls accept
+-- a key, a size and a count that the calls accept, and any number
 pub record AcceptedVolume (vol : Volume) : Type 0 where
   pub key : isKey (vol .key) ≡ true
   pub size : isSize (vol .size) ≡ true

@@ -15,12 +15,12 @@ ghost use Rattle.report.specs.Survey.{surveyOutcome};
 ghost use Rattle.mirror.specs.Survey.{numbers, surveyResult};
 ghost use Rattle.mirror.specs.Version.{release};
 
-// The release that the library is of, 0.2.0, so that a program can tell whether it is the one that the program was compiled for.
+// The release that the library is of, 0.3.0, so that a program can tell whether it is the one that the program was compiled for.
 #[no_mangle]
 pub extern "C" fn mirror_version() -> u32
-    ensures { λ r. ⌜ r ≡ release 0 2 0 ⌝ }
+    ensures { λ r. ⌜ r ≡ release 0 3 0 ⌝ }
 {
-    2000
+    3000
 }
 
 fn done_number(d: Done) -> u32
@@ -38,57 +38,61 @@ fn judged_number(j: Judged) -> u32
 #[no_mangle]
 pub extern "C" fn mirror_seal(
     key: &[u8],
+    volume: u64,
     address: u64,
     plain: &[u8],
     local: &mut [u8],
     tag: &mut [u8],
     remote: &mut [u8],
 ) -> u32
-    ensures { λ r. ⌜ sealCall (keyFrom (now (key .entry))) address (now (plain .entry)) (triple (now (local .entry)) (now (tag .entry)) (now (remote .entry))) ≡ (r, triple (now (local .exit)) (now (tag .exit)) (now (remote .exit))) ⌝ }
+    ensures { λ r. ⌜ sealCall (keyFrom (now (key .entry))) volume address (now (plain .entry)) (triple (now (local .entry)) (now (tag .entry)) (now (remote .entry))) ≡ (r, triple (now (local .exit)) (now (tag .exit)) (now (remote .exit))) ⌝ }
 {
-    done_number(sector::seal(key, address, plain, local, tag, remote))
+    done_number(sector::seal(key, volume, address, plain, local, tag, remote))
 }
 
 #[no_mangle]
 pub extern "C" fn mirror_judge(
     key: &[u8],
+    volume: u64,
     address: u64,
     local: &[u8],
     tag: &[u8],
     remote: &[u8],
     out: &mut [u8],
 ) -> u32
-    ensures { λ r. ⌜ judgeCall (keyFrom (now (key .entry))) address (triple (now (local .entry)) (now (tag .entry)) (now (remote .entry))) (now (out .entry)) ≡ (r, now (out .exit)) ⌝ }
+    ensures { λ r. ⌜ judgeCall (keyFrom (now (key .entry))) volume address (triple (now (local .entry)) (now (tag .entry)) (now (remote .entry))) (now (out .entry)) ≡ (r, now (out .exit)) ⌝ }
 {
-    judged_number(sector::judge(key, address, local, tag, remote, out))
+    judged_number(sector::judge(key, volume, address, local, tag, remote, out))
 }
 
 #[no_mangle]
 pub extern "C" fn mirror_open(
     key: &[u8],
+    volume: u64,
     address: u64,
     side: u32,
     sector: &[u8],
     tag: &[u8],
     out: &mut [u8],
 ) -> u32
-    ensures { λ r. ⌜ openCall (keyFrom (now (key .entry))) address side (now (sector .entry)) (now (tag .entry)) (now (out .entry)) ≡ (r, now (out .exit)) ⌝ }
+    ensures { λ r. ⌜ openCall (keyFrom (now (key .entry))) volume address side (now (sector .entry)) (now (tag .entry)) (now (out .entry)) ≡ (r, now (out .exit)) ⌝ }
 {
-    done_number(sector::open(key, address, side, sector, tag, out))
+    done_number(sector::open(key, volume, address, side, sector, tag, out))
 }
 
 #[no_mangle]
 pub extern "C" fn mirror_rebuild(
     key: &[u8],
+    volume: u64,
     address: u64,
     side: u32,
     sector: &[u8],
     tag: &[u8],
     out: &mut [u8],
 ) -> u32
-    ensures { λ r. ⌜ rebuildCall (keyFrom (now (key .entry))) address side (now (sector .entry)) (now (tag .entry)) (now (out .entry)) ≡ (r, now (out .exit)) ⌝ }
+    ensures { λ r. ⌜ rebuildCall (keyFrom (now (key .entry))) volume address side (now (sector .entry)) (now (tag .entry)) (now (out .entry)) ≡ (r, now (out .exit)) ⌝ }
 {
-    done_number(sector::rebuild(key, address, side, sector, tag, out))
+    done_number(sector::rebuild(key, volume, address, side, sector, tag, out))
 }
 
 #[no_mangle]
@@ -101,6 +105,7 @@ pub extern "C" fn mirror_combine(local: &[u8], remote: &[u8], out: &mut [u8]) ->
 #[no_mangle]
 pub extern "C" fn mirror_blank(
     key: &[u8],
+    volume: u64,
     s: usize,
     n: usize,
     number: usize,
@@ -108,14 +113,15 @@ pub extern "C" fn mirror_blank(
     tags: &mut [u8],
     remote: &mut [u8],
 ) -> u32
-    ensures { λ r. ⌜ outcome mirror (triple (now (local .entry)) (now (tags .entry)) (now (remote .entry))) (args (keyFrom (now (key .entry))) s n number) W.blank ≡ (r, triple (now (local .exit)) (now (tags .exit)) (now (remote .exit))) ⌝ }
+    ensures { λ r. ⌜ outcome mirror (triple (now (local .entry)) (now (tags .entry)) (now (remote .entry))) (args (keyFrom (now (key .entry))) volume s n number) W.blank ≡ (r, triple (now (local .exit)) (now (tags .exit)) (now (remote .exit))) ⌝ }
 {
-    done_number(volume::blank(key, s, n, number, local, tags, remote))
+    done_number(volume::blank(key, volume, s, n, number, local, tags, remote))
 }
 
 #[no_mangle]
 pub extern "C" fn mirror_first_stage(
     key: &[u8],
+    volume: u64,
     s: usize,
     n: usize,
     number: usize,
@@ -124,14 +130,15 @@ pub extern "C" fn mirror_first_stage(
     tags: &[u8],
     remote: &[u8],
 ) -> u32
-    ensures { λ r. ⌜ outcome mirror (triple (now (local .entry)) (now (tags .entry)) (now (remote .entry))) (args (keyFrom (now (key .entry))) s n number) (W.first (now (plain .entry))) ≡ (r, triple (now (local .exit)) (now (tags .entry)) (now (remote .entry))) ⌝ }
+    ensures { λ r. ⌜ outcome mirror (triple (now (local .entry)) (now (tags .entry)) (now (remote .entry))) (args (keyFrom (now (key .entry))) volume s n number) (W.first (now (plain .entry))) ≡ (r, triple (now (local .exit)) (now (tags .entry)) (now (remote .entry))) ⌝ }
 {
-    done_number(volume::first_stage(key, s, n, number, plain, local, tags, remote))
+    done_number(volume::first_stage(key, volume, s, n, number, plain, local, tags, remote))
 }
 
 #[no_mangle]
 pub extern "C" fn mirror_second_stage(
     key: &[u8],
+    volume: u64,
     s: usize,
     n: usize,
     number: usize,
@@ -140,14 +147,15 @@ pub extern "C" fn mirror_second_stage(
     tags: &mut [u8],
     remote: &[u8],
 ) -> u32
-    ensures { λ r. ⌜ outcome mirror (triple (now (local .entry)) (now (tags .entry)) (now (remote .entry))) (args (keyFrom (now (key .entry))) s n number) (W.second (now (plain .entry))) ≡ (r, triple (now (local .entry)) (now (tags .exit)) (now (remote .entry))) ⌝ }
+    ensures { λ r. ⌜ outcome mirror (triple (now (local .entry)) (now (tags .entry)) (now (remote .entry))) (args (keyFrom (now (key .entry))) volume s n number) (W.second (now (plain .entry))) ≡ (r, triple (now (local .entry)) (now (tags .exit)) (now (remote .entry))) ⌝ }
 {
-    done_number(volume::second_stage(key, s, n, number, plain, local, tags, remote))
+    done_number(volume::second_stage(key, volume, s, n, number, plain, local, tags, remote))
 }
 
 #[no_mangle]
 pub extern "C" fn mirror_third_stage(
     key: &[u8],
+    volume: u64,
     s: usize,
     n: usize,
     number: usize,
@@ -156,14 +164,15 @@ pub extern "C" fn mirror_third_stage(
     tags: &[u8],
     remote: &mut [u8],
 ) -> u32
-    ensures { λ r. ⌜ outcome mirror (triple (now (local .entry)) (now (tags .entry)) (now (remote .entry))) (args (keyFrom (now (key .entry))) s n number) (W.third (now (plain .entry))) ≡ (r, triple (now (local .entry)) (now (tags .entry)) (now (remote .exit))) ⌝ }
+    ensures { λ r. ⌜ outcome mirror (triple (now (local .entry)) (now (tags .entry)) (now (remote .entry))) (args (keyFrom (now (key .entry))) volume s n number) (W.third (now (plain .entry))) ≡ (r, triple (now (local .entry)) (now (tags .entry)) (now (remote .exit))) ⌝ }
 {
-    done_number(volume::third_stage(key, s, n, number, plain, local, tags, remote))
+    done_number(volume::third_stage(key, volume, s, n, number, plain, local, tags, remote))
 }
 
 #[no_mangle]
 pub extern "C" fn mirror_read(
     key: &[u8],
+    volume: u64,
     s: usize,
     n: usize,
     number: usize,
@@ -172,14 +181,15 @@ pub extern "C" fn mirror_read(
     remote: &[u8],
     out: &mut [u8],
 ) -> u32
-    ensures { λ r. ⌜ readOutcome mirror (triple (now (local .entry)) (now (tags .entry)) (now (remote .entry))) (args (keyFrom (now (key .entry))) s n number) (now (out .entry)) ≡ (r, now (out .exit)) ⌝ }
+    ensures { λ r. ⌜ readOutcome mirror (triple (now (local .entry)) (now (tags .entry)) (now (remote .entry))) (args (keyFrom (now (key .entry))) volume s n number) (now (out .entry)) ≡ (r, now (out .exit)) ⌝ }
 {
-    judged_number(volume::read(key, s, n, number, local, tags, remote, out))
+    judged_number(volume::read(key, volume, s, n, number, local, tags, remote, out))
 }
 
 #[no_mangle]
 pub extern "C" fn mirror_mend(
     key: &[u8],
+    volume: u64,
     s: usize,
     n: usize,
     number: usize,
@@ -187,9 +197,9 @@ pub extern "C" fn mirror_mend(
     tags: &mut [u8],
     remote: &mut [u8],
 ) -> u32
-    ensures { λ r. ⌜ outcome mirror (triple (now (local .entry)) (now (tags .entry)) (now (remote .entry))) (args (keyFrom (now (key .entry))) s n number) W.mend ≡ (r, triple (now (local .exit)) (now (tags .exit)) (now (remote .exit))) ⌝ }
+    ensures { λ r. ⌜ outcome mirror (triple (now (local .entry)) (now (tags .entry)) (now (remote .entry))) (args (keyFrom (now (key .entry))) volume s n number) W.mend ≡ (r, triple (now (local .exit)) (now (tags .exit)) (now (remote .exit))) ⌝ }
 {
-    judged_number(volume::mend(key, s, n, number, local, tags, remote))
+    judged_number(volume::mend(key, volume, s, n, number, local, tags, remote))
 }
 
 fn count_numbers(c: Counts) -> [u64; 5]
@@ -208,6 +218,7 @@ fn count_numbers(c: Counts) -> [u64; 5]
 #[no_mangle]
 pub extern "C" fn mirror_survey(
     key: &[u8],
+    volume: u64,
     s: usize,
     n: usize,
     local: &[u8],
@@ -216,9 +227,9 @@ pub extern "C" fn mirror_survey(
     list: &mut [u32],
     counts: &mut [u64; 5],
 ) -> u32
-    ensures { λ r. ⌜ surveyResult (surveyOutcome (triple (now (local .entry)) (now (tags .entry)) (now (remote .entry))) (volumeOf (keyFrom (now (key .entry))) s n) (now (list .entry))) (now (counts .entry)) ≡ (r, (now (counts .exit), now (list .exit))) ⌝ }
+    ensures { λ r. ⌜ surveyResult (surveyOutcome (triple (now (local .entry)) (now (tags .entry)) (now (remote .entry))) (volumeOf (keyFrom (now (key .entry))) volume s n) (now (list .entry))) (now (counts .entry)) ≡ (r, (now (counts .exit), now (list .exit))) ⌝ }
 {
-    let surveyed = survey::survey(key, s, n, local, tags, remote, list);
+    let surveyed = survey::survey(key, volume, s, n, local, tags, remote, list);
     match surveyed {
         Surveyed::Counted(c) => {
             *counts = count_numbers(c);

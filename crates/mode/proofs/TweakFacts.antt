@@ -16,7 +16,7 @@ number-0 : (address : ℕ) → tweak 0 address ≡ tweakBefore address
 unfolding tweak toBytes
 number-0 address = refl
 
-seals-as-before : (k : Key) (address : ℕ) (P : List ℕ) → sealed k address P ≡ sealedBefore k address P
+seals-as-before : (k : Key) (address : ℕ) (P : List ℕ) → sealed k 0 address P ≡ sealedBefore k address P
 unfolding sealed tweak toBytes
 seals-as-before k address P = refl
 

@@ -29,7 +29,7 @@ cipherKey k = drop 16 (k .bytes)
 unfoldable pub roundKeys : Key → List ℕ
 roundKeys k = let nk : ℕ = length (cipherKey k) / 4 in expand nk (nk + 6) (cipherKey k)
 
--- the tweak T: two 64-bit numbers as a block, high byte first
+-- the tweak T: the volume's number and the address as a block, 8 bytes each, high byte first
 unfoldable pub tweak : ℕ → ℕ → ℕ
 tweak volume address = fromBytes (toBytes 8 volume ++ toBytes 8 address)
 
@@ -91,6 +91,6 @@ sides E g P = record {
 unfoldable pub sealedBy : (ℕ → ℕ) → ℕ → ℕ → List ℕ → Triple
 sealedBy E h T P = sides E (tagBlock E h T P) P
 
--- what P seals to under a key, at an address
-unfoldable pub sealed : Key → ℕ → List ℕ → Triple
-sealed k address P = sealedBy (cipherNumber (roundKeys k)) (hashKey k) (tweak 0 address) P
+-- what P seals to under a key and a volume's number, at an address
+unfoldable pub sealed : Key → ℕ → ℕ → List ℕ → Triple
+sealed k volume address P = sealedBy (cipherNumber (roundKeys k)) (hashKey k) (tweak volume address) P

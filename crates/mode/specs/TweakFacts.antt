@@ -20,7 +20,7 @@ pub record TweakFacts : Type 0 where
   pub halves : (volume address : ℕ) → volume < 2 ^ 64 → address < 2 ^ 64 → toBytes 16 (tweak volume address) ≡ toBytes 8 volume ++ toBytes 8 address
   -- number 0 gives the block of before, so every sealing under it is the one of before
   pub number-0 : (address : ℕ) → tweak 0 address ≡ tweakBefore address
-  pub seals-as-before : (k : Key) (address : ℕ) (P : List ℕ) → sealed k address P ≡ sealedBefore k address P
+  pub seals-as-before : (k : Key) (address : ℕ) (P : List ℕ) → sealed k 0 address P ≡ sealedBefore k address P
   -- another number or another address gives another tweak
   pub one-pair : (volume address number at : ℕ) → volume < 2 ^ 64 → address < 2 ^ 64 → number < 2 ^ 64 → at < 2 ^ 64
       → tweak volume address ≡ tweak number at → (volume ≡ number) × (address ≡ at)

@@ -1,7 +1,8 @@
 // Replays stored vectors through the sector's calls. Standard input has one vector a line, in hexadecimal, as make_vectors of
 // tests/reference prints them: the call's number, then fields, each after its length in two bytes. The fields are the call's parameters
-// in order, then the answer's number and each slice that the call writes, as it is after. A vector agrees where the call gives that
-// number and leaves every byte of those slices so.
+// in order, then the answer's number and each slice that the call writes, as it is after. The volume's number and the address are one
+// field, of 16 bytes, or of 8 where the number is 0. A vector agrees where the call gives that answer and leaves every byte of those
+// slices so.
 use libc::STDIN_FILENO;
 use libc::STDOUT_FILENO;
 ghost use mathlib.Core.Path.{_≡_};
@@ -91,7 +92,7 @@ fn field(frame: &[u8], n: usize) -> &[u8] {
     &frame[..0]
 }
 
-// Up to eight bytes as a number, high first.
+// Bytes as a number, high first: the last eight count.
 fn number(s: &[u8]) -> u64 {
     let mut x: u64 = 0;
     let mut i: usize = 0;
@@ -102,8 +103,23 @@ fn number(s: &[u8]) -> u64 {
     x
 }
 
+// The last eight bytes of field 1.
 fn address(frame: &[u8]) -> u64 {
     number(field(frame, 1))
+}
+
+// The bytes before the last eight, none where there are no more.
+fn before_eight(s: &[u8]) -> &[u8] {
+    if 8 <= s.len() {
+        let end = s.len() - 8;
+        return &s[0..end];
+    }
+    &s[..0]
+}
+
+// The volume's number, which stands before the address; 0 where nothing does.
+fn volume(frame: &[u8]) -> u64 {
+    number(before_eight(field(frame, 1)))
 }
 
 fn side(frame: &[u8]) -> u32 {
@@ -134,6 +150,7 @@ fn fill(before: &[u8], out: &mut [u8]) -> bool {
 fn seal(frame: &[u8], local: &mut [u8], remote: &mut [u8], tag: &mut [u8]) -> u8 {
     answers::done_number(sector::seal(
         field(frame, 0),
+        volume(frame),
         address(frame),
         field(frame, 2),
         local,
@@ -145,6 +162,7 @@ fn seal(frame: &[u8], local: &mut [u8], remote: &mut [u8], tag: &mut [u8]) -> u8
 fn judge(frame: &[u8], out: &mut [u8]) -> u8 {
     answers::judged_number(sector::judge(
         field(frame, 0),
+        volume(frame),
         address(frame),
         field(frame, 2),
         field(frame, 3),
@@ -156,6 +174,7 @@ fn judge(frame: &[u8], out: &mut [u8]) -> u8 {
 fn open(frame: &[u8], out: &mut [u8]) -> u8 {
     answers::done_number(sector::open(
         field(frame, 0),
+        volume(frame),
         address(frame),
         side(frame),
         field(frame, 3),
@@ -167,6 +186,7 @@ fn open(frame: &[u8], out: &mut [u8]) -> u8 {
 fn rebuild(frame: &[u8], out: &mut [u8]) -> u8 {
     answers::done_number(sector::rebuild(
         field(frame, 0),
+        volume(frame),
         address(frame),
         side(frame),
         field(frame, 3),

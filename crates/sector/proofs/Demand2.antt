@@ -45,7 +45,7 @@ side-right : (d : Side) → (eqb (sideNumber d) 0 || eqb (sideNumber d) 1) ≡ t
 side-right localSide = refl
 side-right remoteSide = refl
 
-module _ (k : Key) (s : ℕ) (ek : isKey k ≡ true) (es : isSize s ≡ true) where
+module _ (k : Key) (volume s : ℕ) (ek : isKey k ≡ true) (es : isSize s ≡ true) where
   abbrev S : Scheme
   S = scheme k
 
@@ -73,57 +73,57 @@ module _ (k : Key) (s : ℕ) (ek : isKey k ≡ true) (es : isSize s ≡ true) wh
 
   -- ---- seal
 
-  seals : (address : ℕ) (P : List ℕ) (out : Triple) → Plain s P → ((p : Place) → length (on out p) ≡ wide s p) → sealCall k address P out ≡ (0, sealed k address P)
+  seals : (address : ℕ) (P : List ℕ) (out : Triple) → Plain s P → ((p : Place) → length (on out p) ≡ wide s p) → sealCall k volume address P out ≡ (0, sealed k volume address P)
   seals address P out plain long =
       let e = plain .long in
-      seal-passes (k .bytes) address P out
+      seal-passes (k .bytes) volume address P out
       (parts-pass k (length P) (length (out .local)) (length (out .remote)) (length (out .tag)) ek (ap isSize e ∙ es) (long local ∙ sym e) (long remote ∙ sym e) (long tag))
       refl refl
 
   -- ---- judge
 
   module _ (address : ℕ) (t : Triple) (out : List ℕ) (σ : Sector s t) (size : length out ≡ s) where
-    judge-is : judgeCall k address t out ≡ verdictOutcome (judge S (tweak 0 address) t) out
+    judge-is : judgeCall k volume address t out ≡ verdictOutcome (judge S (tweak volume address) t) out
     judge-is =
         let e = σ .places local .long in
-        judge-passes (k .bytes) address t out
+        judge-passes (k .bytes) volume address t out
         (parts-pass k (length (t .local)) (length (t .remote)) (length out) (length (t .tag)) ek (ap isSize e ∙ es) (σ .places remote .long ∙ sym e) (size ∙ sym e) (σ .places tag .long))
         refl refl
 
-    judged : (w : Verdict) → (judgeCall k address t out ≡ verdictOutcome w out) ↔ Means s S (tweak 0 address) t w
+    judged : (w : Verdict) → (judgeCall k volume address t out ≡ verdictOutcome w out) ↔ Means s S (tweak volume address) t w
     judged w =
-        let exact = judge-exact s S lawful (tweak 0 address) t σ w in
-        (λ e. exact .0 (outcome-one (judge S (tweak 0 address) t) w out (sym judge-is ∙ e)), λ m. judge-is ∙ ap (λ (v : Verdict). verdictOutcome v out) (exact .1 m))
+        let exact = judge-exact s S lawful (tweak volume address) t σ w in
+        (λ e. exact .0 (outcome-one (judge S (tweak volume address) t) w out (sym judge-is ∙ e)), λ m. judge-is ∙ ap (λ (v : Verdict). verdictOutcome v out) (exact .1 m))
 
-    judges : Judges k s address t out
+    judges : Judges k volume s address t out
     judges = record { at-whole = λ P. judged (whole P); at-doubtful = λ d P. judged (doubtful d P); at-lost = judged lost; at-clashing = judged clashing }
 
   -- ---- open and rebuild
 
   module _ (address : ℕ) (d : Side) (x g out : List ℕ) (plain-x : Plain s x) (plain-g : Plain 16 g) (size : length out ≡ s) where
     abbrev result : Option (List ℕ)
-    result = opened S (tweak 0 address) d g x
+    result = opened S (tweak volume address) d g x
 
     abbrev Sealed : List ℕ → Type 0
-    Sealed P = SealsTo k s address d x g P
+    Sealed P = SealsTo k volume s address d x g P
 
-    fits-of : (P : List ℕ) → Sealed P → W.FitsBoth S (tweak 0 address) d g x P
+    fits-of : (P : List ℕ) → Sealed P → W.FitsBoth S (tweak volume address) d g x P
     unfolding sealed scheme dcm
     fits-of P h = record { fits-tag = h .its-tag; fits-side = h .sector }
 
-    of-fits : (P : List ℕ) → Plain s P → W.FitsBoth S (tweak 0 address) d g x P → Sealed P
+    of-fits : (P : List ℕ) → Plain s P → W.FitsBoth S (tweak volume address) d g x P → Sealed P
     unfolding sealed scheme dcm
     of-fits P p o = record { size = p; sector = o .fits-side; its-tag = o .fits-tag }
 
     found : (P : List ℕ) → (result ≡ some P) ↔ Sealed P
     found P =
-        let e = open-exact s S lawful (tweak 0 address) d g x plain-g plain-x P in
+        let e = open-exact s S lawful (tweak volume address) d g x plain-g plain-x P in
         (λ r. of-fits P (e .0 r .0) (e .0 r .1), λ h. e .1 (h .size, fits-of P h))
 
     none-found : (result ≡ none) ↔ ((P : List ℕ) → Sealed P → ⊥)
     none-found = (
       λ e P h. let r = found P .1 h in let z : _≡_ {A = ℕ} 0 1 = cc in omega arith,
-      λ never. opened-none s S lawful (tweak 0 address) d g x (open-plain s S lawful (tweak 0 address) d g x plain-g plain-x) (λ P p o. never P (of-fits P p o)),
+      λ never. opened-none s S lawful (tweak volume address) d g x (open-plain s S lawful (tweak volume address) d g x plain-g plain-x) (λ P p o. never P (of-fits P p o)),
     )
 
     -- a call whose answer is the outcome under f
@@ -142,13 +142,13 @@ module _ (k : Key) (s : ℕ) (ek : isKey k ≡ true) (es : isSize s ≡ true) wh
     abbrev itself : List ℕ → List ℕ
     itself P = P
 
-    open-is : openCall k address (sideNumber d) x g out ≡ openOutcome itself result out
+    open-is : openCall k volume address (sideNumber d) x g out ≡ openOutcome itself result out
     unfolding openCall
     open-is =
         settle-none _ out passes
-        ∙ ap (λ (c : Side). openOutcome itself (opened S (tweak 0 address) c g x) out) (side-back d)
+        ∙ ap (λ (c : Side). openOutcome itself (opened S (tweak volume address) c g x) out) (side-back d)
 
-    opens : Opens k s address d x g out
+    opens : Opens k volume s address d x g out
     opens = record {
       gives =
           λ P.
@@ -158,38 +158,38 @@ module _ (k : Key) (s : ℕ) (ek : isKey k ≡ true) (es : isSize s ≡ true) wh
     }
 
     abbrev opposite : List ℕ → List ℕ
-    opposite P = on (sealed k address P) (placeOf (otherSide d))
+    opposite P = on (sealed k volume address P) (placeOf (otherSide d))
 
-    rebuild-is : rebuildCall k address (sideNumber d) x g out ≡ openOutcome opposite result out
+    rebuild-is : rebuildCall k volume address (sideNumber d) x g out ≡ openOutcome opposite result out
     unfolding rebuildCall
     rebuild-is =
         settle-none _ out passes
-        ∙ ap (λ (c : Side). openOutcome (λ P. on (sealed k address P) (placeOf (otherSide c))) (opened S (tweak 0 address) c g x) out) (side-back d)
+        ∙ ap (λ (c : Side). openOutcome (λ P. on (sealed k volume address P) (placeOf (otherSide c))) (opened S (tweak volume address) c g x) out) (side-back d)
 
-    rebuilds : Rebuilds k s address d x g out
+    rebuilds : Rebuilds k volume s address d x g out
     rebuilds = record { writes = writes opposite rebuild-is; refuses = refuses opposite rebuild-is }
 
   -- ---- a sealed sector
 
   module _ (address : ℕ) (P out : List ℕ) (plain : Plain s P) (size : length out ≡ s) where
     abbrev t : Triple
-    t = sealed k address P
+    t = sealed k volume address P
 
     long : (p : Place) → Plain (wide s p) (on t p)
     unfolding sealed scheme dcm
-    long p = lawful .shape (tweak 0 address) P plain .places p
+    long p = lawful .shape (tweak volume address) P plain .places p
 
     side-plain : (d : Side) → Plain s (on t (placeOf d))
     side-plain localSide = long local
     side-plain remoteSide = long remote
 
-    itself-sealed : (d : Side) → SealsTo k s address d (on t (placeOf d)) (t .tag) P
+    itself-sealed : (d : Side) → SealsTo k volume s address d (on t (placeOf d)) (t .tag) P
     itself-sealed d = record { size = plain; sector = refl; its-tag = refl }
 
-    opens-sealed : (d : Side) → openCall k address (sideNumber d) (on t (placeOf d)) (t .tag) out ≡ (0, P)
+    opens-sealed : (d : Side) → openCall k volume address (sideNumber d) (on t (placeOf d)) (t .tag) out ≡ (0, P)
     opens-sealed d = opens address d (on t (placeOf d)) (t .tag) out (side-plain d) (long tag) size .gives P .1 (itself-sealed d)
 
-    rebuilds-sealed : (d : Side) → rebuildCall k address (sideNumber d) (on t (placeOf d)) (t .tag) out ≡ (0, on t (placeOf (otherSide d)))
+    rebuilds-sealed : (d : Side) → rebuildCall k volume address (sideNumber d) (on t (placeOf d)) (t .tag) out ≡ (0, on t (placeOf (otherSide d)))
     rebuilds-sealed d =
         rebuilds address d (on t (placeOf d)) (t .tag) out (side-plain d) (long tag) size .writes (on t (placeOf (otherSide d))) .1 (P, itself-sealed d, refl)
 
@@ -199,20 +199,20 @@ module _ (k : Key) (s : ℕ) (ek : isKey k ≡ true) (es : isSize s ≡ true) wh
         let e = long local .long in
         combine-passes (t .local) (t .remote) out
         (pair-pass (length (t .local)) (length (t .remote)) (length out) (ap isSize e ∙ es) (long remote .long ∙ sym e) (size ∙ sym e))
-        refl (sym (lawful .sum (tweak 0 address) P plain))
+        refl (sym (lawful .sum (tweak volume address) P plain))
 
 pub demand-2 : Demand2-whole
-demand-2 k s ek es = record {
-  seals = seals k s ek es;
-  judges = judges k s ek es;
-  opens = opens k s ek es;
-  rebuilds = rebuilds k s ek es;
-  opens-sealed = λ address d P out p e. opens-sealed k s ek es address P out p e d;
-  rebuilds-sealed = λ address d P out p e. rebuilds-sealed k s ek es address P out p e d;
-  combines-sealed = combines-sealed k s ek es;
-  judging = judge-exact s (scheme k) (lawful k s ek es);
-  opening = open-exact s (scheme k) (lawful k s ek es);
-  one-for-two = one-for-two k s ek es;
+demand-2 k volume s ek es = record {
+  seals = seals k volume s ek es;
+  judges = judges k volume s ek es;
+  opens = opens k volume s ek es;
+  rebuilds = rebuilds k volume s ek es;
+  opens-sealed = λ address d P out p e. opens-sealed k volume s ek es address P out p e d;
+  rebuilds-sealed = λ address d P out p e. rebuilds-sealed k volume s ek es address P out p e d;
+  combines-sealed = combines-sealed k volume s ek es;
+  judging = judge-exact s (scheme k) (lawful k volume s ek es);
+  opening = open-exact s (scheme k) (lawful k volume s ek es);
+  one-for-two = one-for-two k volume s ek es;
 }
 
 pub size-bounds : SizeBounds

@@ -99,9 +99,9 @@ key-lt : (k : Key) → Plain 32 (k .bytes) → hashKey k < 2 ^ 128
 unfolding hashKey
 key-lt k p = block-lt (take 16 (k .bytes)) (bytes-take 16 (k .bytes) (p .bytes)) (simp length-take (min-le-left 16 (length (k .bytes))))
 
-clash-key : (k : Key) → Plain 32 (k .bytes) → (address : ℕ) → Clash (scheme k) (tweak 0 address) (first (hashKey k)) (second (hashKey k))
+clash-key : (k : Key) → Plain 32 (k .bytes) → (volume address : ℕ) → Clash (scheme k) (tweak volume address) (first (hashKey k)) (second (hashKey k))
 unfolding scheme
-clash-key k p address = clash (hashKey k) (key-lt k p) (cipherNumber (roundKeys k)) (cipher-lt (roundKeys k)) (tweak 0 address)
+clash-key k p volume address = clash (hashKey k) (key-lt k p) (cipherNumber (roundKeys k)) (cipher-lt (roundKeys k)) (tweak volume address)
 
 pub marked : Marked
 marked = record {

@@ -59,27 +59,27 @@ module _ (w p : List ℕ) (T : ℕ) (d : Side) (x g : List ℕ) (known : Side-kn
 
 -- ---- with a key prepared once
 
-module _ {k : Key} {t w p : List ℕ} {alpha beta : Block} (ctx : Context) (address : ℕ) (e : PreparedFor k t w p alpha beta)
-    (c : (ctx .alpha ≡ alpha) × (ctx .beta ≡ beta) × (value (ctx .tweak) ≡ tweak 0 address)) where
+module _ {k : Key} {t w p : List ℕ} {alpha beta : Block} (ctx : Context) (volume address : ℕ) (e : PreparedFor k t w p alpha beta)
+    (c : (ctx .alpha ≡ alpha) × (ctx .beta ≡ beta) × (value (ctx .tweak) ≡ tweak volume address)) where
   pub opening-ready : {s y g z : ℕ} → Sizes s y y g → z ≡ s → Ready t w p ctx × Sizes s y z g
-  opening-ready a ez = (ready ctx address e c, record { blocks = a .blocks; most = a .most; first = a .first; second = ez; tag-size = a .tag-size })
+  opening-ready a ez = (ready ctx volume address e c, record { blocks = a .blocks; most = a .most; first = a .first; second = ez; tag-size = a .tag-size })
 
   pub opened-is : (h : Wanted) (d : Side) (x g out : List ℕ) {a : ℕ × List ℕ}
-      → openedAs h (schemeOf w p) (value (ctx .tweak)) d x g out ≡ a → openedAs h (scheme k) (tweak 0 address) d x g out ≡ a
+      → openedAs h (schemeOf w p) (value (ctx .tweak)) d x g out ≡ a → openedAs h (scheme k) (tweak volume address) d x g out ≡ a
   opened-is h d x g out ea = sym (keyed e (c .2) (λ S T. openedAs h S T d x g out)) ∙ ea
 
 -- ---- with the checks, of which c is the answer
 
-module _ (k : List ℕ) (address d : ℕ) (x g out : List ℕ) {c : Done}
+module _ (k : List ℕ) (volume address d : ℕ) (x g out : List ℕ) {c : Done}
     (checked : firstOf (openRules (keyFrom k) (length x) (length out) (length g) d) ≡ doneOption c) where
   pub open-accepted : c ≡ D.Done → (isKey (keyFrom k) ≡ true) × Sizes (length x) (length out) (length out) (length g)
   open-accepted ok = open-passed (keyFrom k) (length x) (length out) (length g) d (checked ∙ ap doneOption ok)
 
-  pub open-passes : (h : Wanted) → c ≡ D.Done → {side : Side} → side ≡ sideOf d → {a : ℕ × List ℕ} → openedAs h (scheme (keyFrom k)) (tweak 0 address) side x g out ≡ a
-      → openAs h (keyFrom k) address d x g out ≡ a
+  pub open-passes : (h : Wanted) → c ≡ D.Done → {side : Side} → side ≡ sideOf d → {a : ℕ × List ℕ} → openedAs h (scheme (keyFrom k)) (tweak volume address) side x g out ≡ a
+      → openAs h (keyFrom k) volume address d x g out ≡ a
   open-passes h ok named ea =
-      settle-none (openedAs h (scheme (keyFrom k)) (tweak 0 address) (sideOf d) x g out) out (checked ∙ ap doneOption ok)
-      ∙ ap (λ (side : Side). openedAs h (scheme (keyFrom k)) (tweak 0 address) side x g out) (sym named) ∙ ea
+      settle-none (openedAs h (scheme (keyFrom k)) (tweak volume address) (sideOf d) x g out) out (checked ∙ ap doneOption ok)
+      ∙ ap (λ (side : Side). openedAs h (scheme (keyFrom k)) (tweak volume address) side x g out) (sym named) ∙ ea
 
-  pub open-refuses : (h : Wanted) {f : Refusal} → c ≡ D.Refused f → openAs h (keyFrom k) address d x g out ≡ (refusalNumber f, out)
-  open-refuses h refused = settle-some (openedAs h (scheme (keyFrom k)) (tweak 0 address) (sideOf d) x g out) out (checked ∙ ap doneOption refused)
+  pub open-refuses : (h : Wanted) {f : Refusal} → c ≡ D.Refused f → openAs h (keyFrom k) volume address d x g out ≡ (refusalNumber f, out)
+  open-refuses h refused = settle-some (openedAs h (scheme (keyFrom k)) (tweak volume address) (sideOf d) x g out) out (checked ∙ ap doneOption refused)

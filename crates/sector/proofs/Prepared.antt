@@ -17,17 +17,17 @@ use Rattle.verdict.specs.Judging.{verdictOutcome, judgedBy}
 use Rattle.verdict.specs.Verdict.{judge}
 use Rattle.mode.proofs.Preparing.{keyed, ready-context}
 
--- what is prepared of the key k, and the context of an address
-module _ {k : Key} {t w p : List ℕ} {alpha beta : Block} (ctx : Context) (address : ℕ) (e : PreparedFor k t w p alpha beta)
-    (x : (ctx .alpha ≡ alpha) × (ctx .beta ≡ beta) × (value (ctx .tweak) ≡ tweak 0 address)) where
+-- what is prepared of the key k, and the context of a number and an address
+module _ {k : Key} {t w p : List ℕ} {alpha beta : Block} (ctx : Context) (volume address : ℕ) (e : PreparedFor k t w p alpha beta)
+    (x : (ctx .alpha ≡ alpha) × (ctx .beta ≡ beta) × (value (ctx .tweak) ≡ tweak volume address)) where
   pub ready : Ready t w p ctx
   ready = ready-context ctx (e .ready) (x .0) (x .1)
 
-  pub judged-is : (l g r out : List ℕ) {a : ℕ × List ℕ} → judgedBy w p ctx l g r out ≡ a → verdictOutcome (judge (scheme k) (tweak 0 address) (triple l g r)) out ≡ a
+  pub judged-is : (l g r out : List ℕ) {a : ℕ × List ℕ} → judgedBy w p ctx l g r out ≡ a → verdictOutcome (judge (scheme k) (tweak volume address) (triple l g r)) out ≡ a
   judged-is l g r out ea = sym (keyed e (x .2) (λ S T. verdictOutcome (judge S T (triple l g r)) out)) ∙ ea
 
   -- sealing with the prepared key
-  pub scheme-sealed : (P : List ℕ) → schemeOf w p .sealed (value (ctx .tweak)) P ≡ sealed k address P
+  pub scheme-sealed : (P : List ℕ) → schemeOf w p .sealed (value (ctx .tweak)) P ≡ sealed k volume address P
   unfolding sealed scheme dcm
   scheme-sealed P = keyed e (x .2) (λ S T. S .sealed T P)
 

@@ -18,25 +18,25 @@ use Rattle.sector.specs.Calls.{sealCall, judgeCall, combineCall}
 
 -- ---- c is the answer of the checks
 
-module _ (k : List ℕ) (address : ℕ) (t : Triple) (out : List ℕ) {c : Done}
+module _ (k : List ℕ) (volume address : ℕ) (t : Triple) (out : List ℕ) {c : Done}
     (checked : firstOf (partsRules (keyFrom k) (length (t .local)) (length (t .remote)) (length out) (length (t .tag))) ≡ doneOption c) where
-  pub judge-passes : c ≡ D.Done → {a : ℕ × List ℕ} → verdictOutcome (judge (scheme (keyFrom k)) (tweak 0 address) t) out ≡ a → judgeCall (keyFrom k) address t out ≡ a
+  pub judge-passes : c ≡ D.Done → {a : ℕ × List ℕ} → verdictOutcome (judge (scheme (keyFrom k)) (tweak volume address) t) out ≡ a → judgeCall (keyFrom k) volume address t out ≡ a
   unfolding judgeCall
-  judge-passes ok ea = settle-none (verdictOutcome (judge (scheme (keyFrom k)) (tweak 0 address) t) out) out (checked ∙ ap doneOption ok) ∙ ea
+  judge-passes ok ea = settle-none (verdictOutcome (judge (scheme (keyFrom k)) (tweak volume address) t) out) out (checked ∙ ap doneOption ok) ∙ ea
 
-  pub judge-refuses : {f : Refusal} → c ≡ D.Refused f → judgeCall (keyFrom k) address t out ≡ (refusalNumber f, out)
+  pub judge-refuses : {f : Refusal} → c ≡ D.Refused f → judgeCall (keyFrom k) volume address t out ≡ (refusalNumber f, out)
   unfolding judgeCall
-  judge-refuses refused = settle-some (verdictOutcome (judge (scheme (keyFrom k)) (tweak 0 address) t) out) out (checked ∙ ap doneOption refused)
+  judge-refuses refused = settle-some (verdictOutcome (judge (scheme (keyFrom k)) (tweak volume address) t) out) out (checked ∙ ap doneOption refused)
 
-module _ (k : List ℕ) (address : ℕ) (P : List ℕ) (out : Triple) {c : Done}
+module _ (k : List ℕ) (volume address : ℕ) (P : List ℕ) (out : Triple) {c : Done}
     (checked : firstOf (partsRules (keyFrom k) (length P) (length (out .local)) (length (out .remote)) (length (out .tag))) ≡ doneOption c) where
-  pub seal-passes : c ≡ D.Done → {t : Triple} → t ≡ sealed (keyFrom k) address P → sealCall (keyFrom k) address P out ≡ (0, t)
+  pub seal-passes : c ≡ D.Done → {t : Triple} → t ≡ sealed (keyFrom k) volume address P → sealCall (keyFrom k) volume address P out ≡ (0, t)
   unfolding sealCall
-  seal-passes ok et = settle-none (0, sealed (keyFrom k) address P) out (checked ∙ ap doneOption ok) ∙ ap (λ (t : Triple). (0, t)) (sym et)
+  seal-passes ok et = settle-none (0, sealed (keyFrom k) volume address P) out (checked ∙ ap doneOption ok) ∙ ap (λ (t : Triple). (0, t)) (sym et)
 
-  pub seal-refuses : {f : Refusal} → c ≡ D.Refused f → sealCall (keyFrom k) address P out ≡ (refusalNumber f, out)
+  pub seal-refuses : {f : Refusal} → c ≡ D.Refused f → sealCall (keyFrom k) volume address P out ≡ (refusalNumber f, out)
   unfolding sealCall
-  seal-refuses refused = settle-some (0, sealed (keyFrom k) address P) out (checked ∙ ap doneOption refused)
+  seal-refuses refused = settle-some (0, sealed (keyFrom k) volume address P) out (checked ∙ ap doneOption refused)
 
 module _ (x y out : List ℕ) {c : Done} (checked : firstOf (pairRules (length x) (length y) (length out)) ≡ doneOption c) where
   pub combine-passes : c ≡ D.Done → {o : List ℕ} → o ≡ xorBytes x y → combineCall x y out ≡ (0, o)

@@ -13,19 +13,19 @@ use Rattle.verdict.specs.Judging.{verdictOutcome}
 
 -- ---- seal, with the three outputs before
 
-unfoldable pub sealCall : Key → ℕ → List ℕ → Triple → ℕ × Triple
-sealCall k address P out =
+unfoldable pub sealCall : Key → ℕ → ℕ → List ℕ → Triple → ℕ × Triple
+sealCall k volume address P out =
     settle
     (firstOf (partsRules k (length P) (length (out .local)) (length (out .remote)) (length (out .tag))))
-    (0, sealed k address P) out
+    (0, sealed k volume address P) out
 
 -- ---- judge, with the output before
 
-unfoldable pub judgeCall : Key → ℕ → Triple → List ℕ → ℕ × List ℕ
-judgeCall k address t out =
+unfoldable pub judgeCall : Key → ℕ → ℕ → Triple → List ℕ → ℕ × List ℕ
+judgeCall k volume address t out =
     settle
     (firstOf (partsRules k (length (t .local)) (length (t .remote)) (length out) (length (t .tag))))
-    (verdictOutcome (judge (scheme k) (tweak 0 address) t) out) out
+    (verdictOutcome (judge (scheme k) (tweak volume address) t) out) out
 
 -- ---- open and rebuild, of the side with the number d: 0 is local, 1 remote
 
@@ -34,17 +34,17 @@ abbrev pub openOutcome : (List ℕ → List ℕ) → Option (List ℕ) → List 
 openOutcome f none out = (5, out)
 openOutcome f (some P) out = (0, f P)
 
-abbrev pub openWith : (List ℕ → List ℕ) → Key → ℕ → ℕ → List ℕ → List ℕ → List ℕ → ℕ × List ℕ
-openWith f k address d x g out =
+abbrev pub openWith : (List ℕ → List ℕ) → Key → ℕ → ℕ → ℕ → List ℕ → List ℕ → List ℕ → ℕ × List ℕ
+openWith f k volume address d x g out =
     settle
     (firstOf (openRules k (length x) (length out) (length g) d))
-    (openOutcome f (opened (scheme k) (tweak 0 address) (sideOf d) g x) out) out
+    (openOutcome f (opened (scheme k) (tweak volume address) (sideOf d) g x) out) out
 
-unfoldable pub openCall : Key → ℕ → ℕ → List ℕ → List ℕ → List ℕ → ℕ × List ℕ
+unfoldable pub openCall : Key → ℕ → ℕ → ℕ → List ℕ → List ℕ → List ℕ → ℕ × List ℕ
 openCall = openWith (λ P. P)
 
-unfoldable pub rebuildCall : Key → ℕ → ℕ → List ℕ → List ℕ → List ℕ → ℕ × List ℕ
-rebuildCall k address d = openWith (λ P. on (sealed k address P) (placeOf (otherSide (sideOf d)))) k address d
+unfoldable pub rebuildCall : Key → ℕ → ℕ → ℕ → List ℕ → List ℕ → List ℕ → ℕ × List ℕ
+rebuildCall k volume address d = openWith (λ P. on (sealed k volume address P) (placeOf (otherSide (sideOf d)))) k volume address d
 
 -- ---- combine
 

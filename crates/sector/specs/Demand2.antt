@@ -1,5 +1,5 @@
--- Demand 2 on the calls' definitions, as one statement: proved as `demand-2`. It is for every key of 32 bytes, every sector size s, every
--- 64-bit address, and all bytes.
+-- Demand 2 on the calls' definitions, as one statement: proved as `demand-2`. It is for every key of 32 bytes, every 64-bit volume's number,
+-- every sector size s, every 64-bit address, and all bytes.
 use mathlib.Core.Path.{_≡_}
 use mathlib.Core.Logic.{_↔_}
 use mathlib.Core.Bool.{true, false}
@@ -18,47 +18,47 @@ abbrev pub sideNumber : Side → ℕ
 sideNumber localSide = 0
 sideNumber remoteSide = 1
 
--- x and g are the sector on the side d and the tag that the plaintext P of s bytes seals to, under that key and address
-pub record SealsTo (k : Key) (s address : ℕ) (d : Side) (x g P : List ℕ) : Type 0 where
+-- x and g are the sector on the side d and the tag that the plaintext P of s bytes seals to, under that key, number and address
+pub record SealsTo (k : Key) (volume s address : ℕ) (d : Side) (x g P : List ℕ) : Type 0 where
   pub size : Plain s P
-  pub sector : x ≡ on (sealed k address P) (placeOf d)
-  pub its-tag : g ≡ sealed k address P .tag
+  pub sector : x ≡ on (sealed k volume address P) (placeOf d)
+  pub its-tag : g ≡ sealed k volume address P .tag
 
 -- judging answers 0 and the plaintext exactly if whole, `81`, `82` or `83` and the plaintext exactly if doubtful at that place, and 6 or 7
 -- with the output as it was exactly if lost or clashing
-pub record Judges (k : Key) (s address : ℕ) (t : Triple) (out : List ℕ) : Type 0 where
-  pub at-whole : (P : List ℕ) → (judgeCall k address t out ≡ (0, P)) ↔ Means s (scheme k) (tweak 0 address) t (whole P)
-  pub at-doubtful : (d : Place) (P : List ℕ) → (judgeCall k address t out ≡ (doubtNumber d, P)) ↔ Means s (scheme k) (tweak 0 address) t (doubtful d P)
-  pub at-lost : (judgeCall k address t out ≡ (6, out)) ↔ Means s (scheme k) (tweak 0 address) t lost
-  pub at-clashing : (judgeCall k address t out ≡ (7, out)) ↔ Means s (scheme k) (tweak 0 address) t clashing
+pub record Judges (k : Key) (volume s address : ℕ) (t : Triple) (out : List ℕ) : Type 0 where
+  pub at-whole : (P : List ℕ) → (judgeCall k volume address t out ≡ (0, P)) ↔ Means s (scheme k) (tweak volume address) t (whole P)
+  pub at-doubtful : (d : Place) (P : List ℕ) → (judgeCall k volume address t out ≡ (doubtNumber d, P)) ↔ Means s (scheme k) (tweak volume address) t (doubtful d P)
+  pub at-lost : (judgeCall k volume address t out ≡ (6, out)) ↔ Means s (scheme k) (tweak volume address) t lost
+  pub at-clashing : (judgeCall k volume address t out ≡ (7, out)) ↔ Means s (scheme k) (tweak volume address) t clashing
 
--- opening gives P exactly for the sealed sectors and tags of that key, address and side, and answers 5 with the output as it was exactly
+-- opening gives P exactly for the sealed sectors and tags of that key, number, address and side, and answers 5 with the output as it was exactly
 -- if no plaintext fits both
-pub record Opens (k : Key) (s address : ℕ) (d : Side) (x g out : List ℕ) : Type 0 where
-  pub gives : (P : List ℕ) → (openCall k address (sideNumber d) x g out ≡ (0, P)) ↔ SealsTo k s address d x g P
-  pub refuses : (openCall k address (sideNumber d) x g out ≡ (5, out)) ↔ ((P : List ℕ) → SealsTo k s address d x g P → ⊥)
+pub record Opens (k : Key) (volume s address : ℕ) (d : Side) (x g out : List ℕ) : Type 0 where
+  pub gives : (P : List ℕ) → (openCall k volume address (sideNumber d) x g out ≡ (0, P)) ↔ SealsTo k volume s address d x g P
+  pub refuses : (openCall k volume address (sideNumber d) x g out ≡ (5, out)) ↔ ((P : List ℕ) → SealsTo k volume s address d x g P → ⊥)
 
 -- rebuilding writes the other side of that plaintext, and refuses alike
-pub record Rebuilds (k : Key) (s address : ℕ) (d : Side) (x g out : List ℕ) : Type 0 where
-  pub writes : (y : List ℕ) → (rebuildCall k address (sideNumber d) x g out ≡ (0, y))
-      ↔ ((P : List ℕ) × SealsTo k s address d x g P × (y ≡ on (sealed k address P) (placeOf (otherSide d))))
-  pub refuses : (rebuildCall k address (sideNumber d) x g out ≡ (5, out)) ↔ ((P : List ℕ) → SealsTo k s address d x g P → ⊥)
+pub record Rebuilds (k : Key) (volume s address : ℕ) (d : Side) (x g out : List ℕ) : Type 0 where
+  pub writes : (y : List ℕ) → (rebuildCall k volume address (sideNumber d) x g out ≡ (0, y))
+      ↔ ((P : List ℕ) × SealsTo k volume s address d x g P × (y ≡ on (sealed k volume address P) (placeOf (otherSide d))))
+  pub refuses : (rebuildCall k volume address (sideNumber d) x g out ≡ (5, out)) ↔ ((P : List ℕ) → SealsTo k volume s address d x g P → ⊥)
 
-pub record Demand2 (k : Key) (s : ℕ) : Type 0 where
+pub record Demand2 (k : Key) (volume s : ℕ) : Type 0 where
   -- sealing equals the mode, whatever the three outputs held
   pub seals : (address : ℕ) (P : List ℕ) (out : Triple) → Plain s P → ((p : Place) → length (on out p) ≡ wide s p)
-      → sealCall k address P out ≡ (0, sealed k address P)
+      → sealCall k volume address P out ≡ (0, sealed k volume address P)
   -- for all bytes in sectors and tags of these lengths, whatever the output held: judging, opening and rebuilding answer what is meant
-  pub judges : (address : ℕ) (t : Triple) (out : List ℕ) → Sector s t → length out ≡ s → Judges k s address t out
-  pub opens : (address : ℕ) (d : Side) (x g out : List ℕ) → Plain s x → Plain 16 g → length out ≡ s → Opens k s address d x g out
-  pub rebuilds : (address : ℕ) (d : Side) (x g out : List ℕ) → Plain s x → Plain 16 g → length out ≡ s → Rebuilds k s address d x g out
+  pub judges : (address : ℕ) (t : Triple) (out : List ℕ) → Sector s t → length out ≡ s → Judges k volume s address t out
+  pub opens : (address : ℕ) (d : Side) (x g out : List ℕ) → Plain s x → Plain 16 g → length out ≡ s → Opens k volume s address d x g out
+  pub rebuilds : (address : ℕ) (d : Side) (x g out : List ℕ) → Plain s x → Plain 16 g → length out ≡ s → Rebuilds k volume s address d x g out
   -- of a sealed sector: either side and the tag open to the plaintext and rebuild the other side, and the two sides combine to it
   pub opens-sealed : (address : ℕ) (d : Side) (P out : List ℕ) → Plain s P → length out ≡ s
-      → openCall k address (sideNumber d) (on (sealed k address P) (placeOf d)) (sealed k address P .tag) out ≡ (0, P)
+      → openCall k volume address (sideNumber d) (on (sealed k volume address P) (placeOf d)) (sealed k volume address P .tag) out ≡ (0, P)
   pub rebuilds-sealed : (address : ℕ) (d : Side) (P out : List ℕ) → Plain s P → length out ≡ s
-      → rebuildCall k address (sideNumber d) (on (sealed k address P) (placeOf d)) (sealed k address P .tag) out ≡ (0, on (sealed k address P) (placeOf (otherSide d)))
+      → rebuildCall k volume address (sideNumber d) (on (sealed k volume address P) (placeOf d)) (sealed k volume address P .tag) out ≡ (0, on (sealed k volume address P) (placeOf (otherSide d)))
   pub combines-sealed : (address : ℕ) (P out : List ℕ) → Plain s P → length out ≡ s
-      → combineCall (sealed k address P .local) (sealed k address P .remote) out ≡ (0, P)
+      → combineCall (sealed k volume address P .local) (sealed k volume address P .remote) out ≡ (0, P)
   -- behind the calls, for every tweak: the verdict worked out is the one that fitting means; what is opened is what fits; at most one
   -- plaintext fits two given places
   pub judging : JudgeExact s (scheme k)
@@ -66,9 +66,9 @@ pub record Demand2 (k : Key) (s : ℕ) : Type 0 where
   pub one-for-two : (T : ℕ) (t : Triple) (p q : Place) → (p ≡ q → ⊥) → (P Q : List ℕ) → Plain s P → Plain s Q
       → Fits (scheme k) T t p P → Fits (scheme k) T t q P → Fits (scheme k) T t p Q → Fits (scheme k) T t q Q → P ≡ Q
 
--- under every key and size that a call accepts
+-- under every key and size that a call accepts, and every number
 abbrev pub Demand2-whole : Type 0
-Demand2-whole = (k : Key) (s : ℕ) → isKey k ≡ true → isSize s ≡ true → Demand2 k s
+Demand2-whole = (k : Key) (volume s : ℕ) → isKey k ≡ true → isSize s ≡ true → Demand2 k volume s
 
 -- document 01's examples at the bounds: sizes 15 and 4,112 are refused, 16 and 4,096 pass
 pub record SizeBounds : Type 0 where

@@ -42,7 +42,7 @@ pub record Marked : Type 0 where
   pub row-h-second : (h T : ℕ) → brw h (h ∷ 1 ∷ T ∷ []) ≡ T
   -- so the one's local with the other's remote and that tag clash: over every cipher E that gives blocks,
   pub row-h-clash : (E : ℕ → ℕ) → ((x : ℕ) → E x < 2 ^ 128) → (h : ℕ) → h < 2 ^ 128 → (T : ℕ) → Clash (dcm E h) T (first h) (second h)
-  -- and so under every key and at every address
-  pub row-h-clash-key : (k : Key) → Plain 32 (k .bytes) → (address : ℕ) → Clash (scheme k) (tweak 0 address) (first (hashKey k)) (second (hashKey k))
+  -- and so under every key and number, at every address
+  pub row-h-clash-key : (k : Key) → Plain 32 (k .bytes) → (volume address : ℕ) → Clash (scheme k) (tweak volume address) (first (hashKey k)) (second (hashKey k))
   pub row-i-00 : getD sBoxTable 0x00 0 ≡ 0x63
   pub row-i-53 : getD sBoxTable 0x53 0 ≡ 0xed

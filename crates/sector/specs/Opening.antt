@@ -18,5 +18,5 @@ abbrev pub openedAs : Wanted → Scheme → ℕ → Side → List ℕ → List �
 openedAs wanted S T d x g out = openOutcome (wantedOf wanted S T d) (opened S T d g x) out
 
 -- with the refusals 1 to 4
-abbrev pub openAs : Wanted → Key → ℕ → ℕ → List ℕ → List ℕ → List ℕ → ℕ × List ℕ
-openAs wanted k address d x g out = openWith (wantedOf wanted (scheme k) (tweak 0 address) (sideOf d)) k address d x g out
+abbrev pub openAs : Wanted → Key → ℕ → ℕ → ℕ → List ℕ → List ℕ → List ℕ → ℕ × List ℕ
+openAs wanted k volume address d x g out = openWith (wantedOf wanted (scheme k) (tweak volume address) (sideOf d)) k volume address d x g out

@@ -23,6 +23,7 @@ ghost use Rattle.sector.specs.Opening.{openedAs, openAs};
 
 fn judge_checked(
     key: &[u8],
+    volume: u64,
     address: u64,
     local: &[u8],
     tag: &[u8],
@@ -30,11 +31,11 @@ fn judge_checked(
     out: &mut [u8],
 ) -> Judged
     requires { ⌜ (isKey (keyFrom (now key)) ≡ true) × Sizes (length (now local)) (length (now remote)) (length (now out)) (length (now tag)) ⌝ }
-    ensures { λ r. ⌜ verdictOutcome (W.judge (scheme (keyFrom (now (key .entry)))) (tweak 0 address) (triple (now (local .entry)) (now (tag .entry)) (now (remote .entry)))) (now (out .entry)) ≡ (judgedNumber r, now (out .exit)) ⌝ }
+    ensures { λ r. ⌜ verdictOutcome (W.judge (scheme (keyFrom (now (key .entry)))) (tweak volume address) (triple (now (local .entry)) (now (tag .entry)) (now (remote .entry)))) (now (out .entry)) ≡ (judgedNumber r, now (out .exit)) ⌝ }
 {
     let t = aes::table();
     let k = mode::prepare(&t, key);
-    let ctx = mode::context_at(k.masks, 0, address);
+    let ctx = mode::context_at(k.masks, volume, address);
     let s = local.len();
     let mut sum = [0u8; 4096];
     let mut scratch = [0u8; 4096];
@@ -55,17 +56,18 @@ fn judge_checked(
 // Judges a sector: gives the plaintext with whole or the doubtful place.
 pub fn judge(
     key: &[u8],
+    volume: u64,
     address: u64,
     local: &[u8],
     tag: &[u8],
     remote: &[u8],
     out: &mut [u8],
 ) -> Judged
-    ensures { λ r. ⌜ judgeCall (keyFrom (now (key .entry))) address (triple (now (local .entry)) (now (tag .entry)) (now (remote .entry))) (now (out .entry)) ≡ (judgedNumber r, now (out .exit)) ⌝ }
+    ensures { λ r. ⌜ judgeCall (keyFrom (now (key .entry))) volume address (triple (now (local .entry)) (now (tag .entry)) (now (remote .entry))) (now (out .entry)) ≡ (judgedNumber r, now (out .exit)) ⌝ }
 {
     let checked = answers::check_parts(key, local.len(), remote.len(), out.len(), tag.len());
     match checked {
-        Done::Done => judge_checked(key, address, local, tag, remote, out),
+        Done::Done => judge_checked(key, volume, address, local, tag, remote, out),
         Done::Refused(r) => Judged::Refused(r),
     }
 }
@@ -91,6 +93,7 @@ fn seal_in<'k>(
 
 fn seal_checked(
     key: &[u8],
+    volume: u64,
     address: u64,
     p: &[u8],
     local: &mut [u8],
@@ -98,29 +101,30 @@ fn seal_checked(
     remote: &mut [u8],
 )
     requires { ⌜ (isKey (keyFrom (now key)) ≡ true) × Sizes (length (now p)) (length (now local)) (length (now remote)) (length (now tag)) ⌝ }
-    ensures { λ _. ⌜ triple (now (local .exit)) (now (tag .exit)) (now (remote .exit)) ≡ sealed (keyFrom (now (key .entry))) address (now (p .entry)) ⌝ }
+    ensures { λ _. ⌜ triple (now (local .exit)) (now (tag .exit)) (now (remote .exit)) ≡ sealed (keyFrom (now (key .entry))) volume address (now (p .entry)) ⌝ }
 {
     let t = aes::table();
     let k = mode::prepare(&t, key);
-    let ctx = mode::context_at(k.masks, 0, address);
+    let ctx = mode::context_at(k.masks, volume, address);
     seal_in(&t, &k.words, &k.powers, ctx, p, local, tag, remote);
 }
 
 // Seals the plaintext p: writes the local sector, the tag and the remote sector.
 pub fn seal(
     key: &[u8],
+    volume: u64,
     address: u64,
     p: &[u8],
     local: &mut [u8],
     tag: &mut [u8],
     remote: &mut [u8],
 ) -> Done
-    ensures { λ r. ⌜ sealCall (keyFrom (now (key .entry))) address (now (p .entry)) (triple (now (local .entry)) (now (tag .entry)) (now (remote .entry))) ≡ (doneNumber r, triple (now (local .exit)) (now (tag .exit)) (now (remote .exit))) ⌝ }
+    ensures { λ r. ⌜ sealCall (keyFrom (now (key .entry))) volume address (now (p .entry)) (triple (now (local .entry)) (now (tag .entry)) (now (remote .entry))) ≡ (doneNumber r, triple (now (local .exit)) (now (tag .exit)) (now (remote .exit))) ⌝ }
 {
     let checked = answers::check_parts(key, p.len(), local.len(), remote.len(), tag.len());
     match checked {
         Done::Done => {
-            seal_checked(key, address, p, local, tag, remote);
+            seal_checked(key, volume, address, p, local, tag, remote);
             Done::Done
         }
         Done::Refused(refusal) => Done::Refused(refusal),
@@ -192,6 +196,7 @@ fn open_in<'k>(
 fn open_checked(
     wanted: Wanted,
     key: &[u8],
+    volume: u64,
     address: u64,
     side: Side,
     x: &[u8],
@@ -199,11 +204,11 @@ fn open_checked(
     out: &mut [u8],
 ) -> Done
     requires { ⌜ (isKey (keyFrom (now key)) ≡ true) × Sizes (length (now x)) (length (now out)) (length (now out)) (length (now tag)) ⌝ }
-    ensures { λ r. ⌜ openedAs wanted (scheme (keyFrom (now (key .entry)))) (tweak 0 address) (sideNamed side) (now (x .entry)) (now (tag .entry)) (now (out .entry)) ≡ (doneNumber r, now (out .exit)) ⌝ }
+    ensures { λ r. ⌜ openedAs wanted (scheme (keyFrom (now (key .entry)))) (tweak volume address) (sideNamed side) (now (x .entry)) (now (tag .entry)) (now (out .entry)) ≡ (doneNumber r, now (out .exit)) ⌝ }
 {
     let t = aes::table();
     let k = mode::prepare(&t, key);
-    let ctx = mode::context_at(k.masks, 0, address);
+    let ctx = mode::context_at(k.masks, volume, address);
     let s = x.len();
     let mut scratch = [0u8; 4096];
     open_in(
@@ -224,19 +229,21 @@ fn open_checked(
 fn open_as(
     wanted: Wanted,
     key: &[u8],
+    volume: u64,
     address: u64,
     side: u32,
     x: &[u8],
     tag: &[u8],
     out: &mut [u8],
 ) -> Done
-    ensures { λ r. ⌜ openAs wanted (keyFrom (now (key .entry))) address side (now (x .entry)) (now (tag .entry)) (now (out .entry)) ≡ (doneNumber r, now (out .exit)) ⌝ }
+    ensures { λ r. ⌜ openAs wanted (keyFrom (now (key .entry))) volume address side (now (x .entry)) (now (tag .entry)) (now (out .entry)) ≡ (doneNumber r, now (out .exit)) ⌝ }
 {
     let checked = answers::check_open(key, x.len(), out.len(), tag.len(), side);
     match checked {
         Done::Done => open_checked(
             wanted,
             key,
+            volume,
             address,
             verdict::side_numbered(side),
             x,
@@ -248,15 +255,31 @@ fn open_as(
 }
 
 // Gives the one plaintext that fits the tag and the sector x of a side: 0 is local, 1 remote.
-pub fn open(key: &[u8], address: u64, side: u32, x: &[u8], tag: &[u8], out: &mut [u8]) -> Done
-    ensures { λ r. ⌜ openCall (keyFrom (now (key .entry))) address side (now (x .entry)) (now (tag .entry)) (now (out .entry)) ≡ (doneNumber r, now (out .exit)) ⌝ }
+pub fn open(
+    key: &[u8],
+    volume: u64,
+    address: u64,
+    side: u32,
+    x: &[u8],
+    tag: &[u8],
+    out: &mut [u8],
+) -> Done
+    ensures { λ r. ⌜ openCall (keyFrom (now (key .entry))) volume address side (now (x .entry)) (now (tag .entry)) (now (out .entry)) ≡ (doneNumber r, now (out .exit)) ⌝ }
 {
-    open_as(Wanted::Plaintext, key, address, side, x, tag, out)
+    open_as(Wanted::Plaintext, key, volume, address, side, x, tag, out)
 }
 
 // Writes the opposite side from the sector x of a side and the tag.
-pub fn rebuild(key: &[u8], address: u64, side: u32, x: &[u8], tag: &[u8], out: &mut [u8]) -> Done
-    ensures { λ r. ⌜ rebuildCall (keyFrom (now (key .entry))) address side (now (x .entry)) (now (tag .entry)) (now (out .entry)) ≡ (doneNumber r, now (out .exit)) ⌝ }
+pub fn rebuild(
+    key: &[u8],
+    volume: u64,
+    address: u64,
+    side: u32,
+    x: &[u8],
+    tag: &[u8],
+    out: &mut [u8],
+) -> Done
+    ensures { λ r. ⌜ rebuildCall (keyFrom (now (key .entry))) volume address side (now (x .entry)) (now (tag .entry)) (now (out .entry)) ≡ (doneNumber r, now (out .exit)) ⌝ }
 {
-    open_as(Wanted::Opposite, key, address, side, x, tag, out)
+    open_as(Wanted::Opposite, key, volume, address, side, x, tag, out)
 }

@@ -19,9 +19,9 @@ use Rattle.images.proofs.Rooms.{has-room}
 use Rattle.report.specs.Survey.{Report, refused, verdictAt, surveyed, surveyOutcome}
 
 -- of these images and this list
-module _ (k l g r list : List ℕ) (s n : ℕ) where
+module _ (k l g r list : List ℕ) (volume s n : ℕ) where
   abbrev vol : Volume
-  vol = volumeOf (keyFrom k) s n
+  vol = volumeOf (keyFrom k) volume s n
 
   module _ {d : Done} (e : firstOf (surveyRules (keyFrom k) s n (shape s n (length l) (length g) (length r)) (length list)) ≡ doneOption d) where
     pub checked-room : d ≡ D.Done → (isKey (keyFrom k) ≡ true) × Room s n (length l) (length g) (length r) × (n ≤ length list)
@@ -30,7 +30,7 @@ module _ (k l g r list : List ℕ) (s n : ℕ) where
         let t = survey-passed (triple l g r) vol (length list) (e ∙ ap doneOption z) in
         (t .0 .key, has-room (triple l g r) vol (t .0), t .1)
 
-    pub checked-counted : {x : Report × List ℕ} → d ≡ D.Done → surveyed (verdictAt (mirror (keyFrom k)) s (triple l g r)) n list ≡ x → surveyOutcome (triple l g r) vol list ≡ x
+    pub checked-counted : {x : Report × List ℕ} → d ≡ D.Done → surveyed (verdictAt (mirror (keyFrom k) volume) s (triple l g r)) n list ≡ x → surveyOutcome (triple l g r) vol list ≡ x
     unfolding isShape
     checked-counted z c = survey-passes (triple l g r) vol list (e ∙ ap doneOption z) c
 

@@ -247,7 +247,7 @@ verdict-by w p ctx volume s i l g r out new j em e = record {
       ∙ ap (λ (T : ℕ). verdictNumber (judge (schemeOf w p) T (placesOf s i l g r))) em;
 }
 
-pub survey-keyed : {k : Key} {t w p : List ℕ} {alpha beta : Block} → PreparedFor k t w p alpha beta → (s n : ℕ) (l g x list : List ℕ) {a : Report × List ℕ}
-    → surveyed (verdictBy (schemeOf w p) 0 s l g x) n list ≡ a → surveyed (verdictAt (mirror k) s (triple l g x)) n list ≡ a
+pub survey-keyed : {k : Key} {t w p : List ℕ} {alpha beta : Block} → PreparedFor k t w p alpha beta → (volume s n : ℕ) (l g x list : List ℕ) {a : Report × List ℕ}
+    → surveyed (verdictBy (schemeOf w p) volume s l g x) n list ≡ a → surveyed (verdictAt (mirror k volume) s (triple l g x)) n list ≡ a
 unfolding judge grade fitsTwo fits candidate mirror sealed scheme dcm
-survey-keyed e s n l g x list d = sym (ap (λ (S : Scheme). surveyed (verdictBy S 0 s l g x) n list) (scheme-is e)) ∙ d
+survey-keyed e volume s n l g x list d = sym (ap (λ (S : Scheme). surveyed (verdictBy S volume s l g x) n list) (scheme-is e)) ∙ d

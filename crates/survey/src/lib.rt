@@ -274,6 +274,7 @@ fn survey_prepared<'k>(
 
 fn survey_checked(
     key: &[u8],
+    volume: u64,
     s: usize,
     n: usize,
     local: &[u8],
@@ -282,7 +283,7 @@ fn survey_checked(
     list: &mut [u32],
 ) -> Counts
     requires { ⌜ (isKey (keyFrom (now key)) ≡ true) × Room s n (length (now local)) (length (now tags)) (length (now remote)) × (n ≤ length (now list)) ⌝ }
-    ensures { λ r. ⌜ surveyed (verdictAt (mirror (keyFrom (now (key .entry)))) s (triple (now (local .entry)) (now (tags .entry)) (now (remote .entry)))) n (now (list .entry)) ≡ (counted r, now (list .exit)) ⌝ }
+    ensures { λ r. ⌜ surveyed (verdictAt (mirror (keyFrom (now (key .entry))) volume) s (triple (now (local .entry)) (now (tags .entry)) (now (remote .entry)))) n (now (list .entry)) ≡ (counted r, now (list .exit)) ⌝ }
 {
     let t = aes::table();
     let k = mode::prepare(&t, key);
@@ -291,7 +292,7 @@ fn survey_checked(
         &k.words,
         &k.powers,
         k.masks,
-        0,
+        volume,
         s,
         n,
         local,
@@ -305,6 +306,7 @@ fn survey_checked(
 // kind rising.
 pub fn survey(
     key: &[u8],
+    volume: u64,
     s: usize,
     n: usize,
     local: &[u8],
@@ -312,7 +314,7 @@ pub fn survey(
     remote: &[u8],
     list: &mut [u32],
 ) -> Surveyed
-    ensures { λ r. ⌜ surveyOutcome (triple (now (local .entry)) (now (tags .entry)) (now (remote .entry))) (volumeOf (keyFrom (now (key .entry))) s n) (now (list .entry)) ≡ (reportOf r, now (list .exit)) ⌝ }
+    ensures { λ r. ⌜ surveyOutcome (triple (now (local .entry)) (now (tags .entry)) (now (remote .entry))) (volumeOf (keyFrom (now (key .entry))) volume s n) (now (list .entry)) ≡ (reportOf r, now (list .exit)) ⌝ }
 {
     let checked = answers::check_survey(
         key,
@@ -324,7 +326,16 @@ pub fn survey(
         list.len(),
     );
     match checked {
-        Done::Done => Surveyed::Counted(survey_checked(key, s, n, local, tags, remote, list)),
+        Done::Done => Surveyed::Counted(survey_checked(
+            key,
+            volume,
+            s,
+            n,
+            local,
+            tags,
+            remote,
+            list,
+        )),
         Done::Refused(f) => Surveyed::Refused(f),
     }
 }

@@ -22,9 +22,9 @@ use Rattle.images.specs.Lent.{Within}
 use Rattle.images.proofs.Rooms.{has-room, within-room, within-same, prefix-size}
 use Rattle.stages.specs.Inner.{allPlaces, sealInto, lateOutcome}
 
-module _ (k : List ℕ) (s n i : ℕ) (l g r : List ℕ) where
+module _ (k : List ℕ) (volume s n i : ℕ) (l g r : List ℕ) where
   abbrev a : Args
-  a = args (keyFrom k) s n i
+  a = args (keyFrom k) volume s n i
 
   abbrev v : Triple
   v = triple l g r
@@ -43,7 +43,7 @@ module _ (k : List ℕ) (s n i : ℕ) (l g r : List ℕ) where
         let p = passed v a c (answered q) in
         (p .common .key, within-room s n i (length l) (length g) (length r) (has-room v (a .volume) (p .common)) (p .number))
 
-    pub call-done : d ≡ D.Done → {x : ℕ × Triple} → lateOutcome (mirror (keyFrom k)) i s i v c ≡ x → outcome mirror v a c ≡ x
+    pub call-done : d ≡ D.Done → {x : ℕ × Triple} → lateOutcome (mirror (keyFrom k) volume) i s i v c ≡ x → outcome mirror v a c ≡ x
     unfolding sealInto lateOutcome
     call-done q x = outcome-late mirror v a c (answered q) ∙ x
 
@@ -60,10 +60,10 @@ module _ (k : List ℕ) (s n i : ℕ) (l g r : List ℕ) where
         let w = call-within (read p) checks q in
         (w .0, within-same (long p checks q) (w .1))
 
-    pub stage-done : (c : Call) → lengths a c ≡ lengthRules p s → {x : ℕ × Triple} → lateOutcome (mirror (keyFrom k)) i p i v c ≡ x → outcome mirror v a c ≡ x
+    pub stage-done : (c : Call) → lengths a c ≡ lengthRules p s → {x : ℕ × Triple} → lateOutcome (mirror (keyFrom k) volume) i p i v c ≡ x → outcome mirror v a c ≡ x
     stage-done c e x =
         let same = subst (λ (m : List Rule). firstOf (sectorRules (keyFrom k) s n (shape s n (length l) (length g) (length r)) i ++ m) ≡ doneOption d) (sym e) checks in
-        call-done c same q (ap (λ (m : ℕ). lateOutcome (mirror (keyFrom k)) i m i v c) (sym (long p checks q)) ∙ x)
+        call-done c same q (ap (λ (m : ℕ). lateOutcome (mirror (keyFrom k) volume) i m i v c) (sym (long p checks q)) ∙ x)
 
   -- ---- blank
 
@@ -77,12 +77,12 @@ module _ (k : List ℕ) (s n i : ℕ) (l g r : List ℕ) where
     pub blank-within : {m : ℕ} → m ≡ s → (isKey (keyFrom k) ≡ true) × Within m i (length l) (length g) (length r)
     blank-within e = let w = call-within blank checks q in (w .0, within-same e (w .1))
 
-    pub blank-done : {x : Triple} → x ≡ sealInto (mirror (keyFrom k)) i (length zeros) i zeros allPlaces v → outcome mirror v a blank ≡ (0, x)
+    pub blank-done : {x : Triple} → x ≡ sealInto (mirror (keyFrom k) volume) i (length zeros) i zeros allPlaces v → outcome mirror v a blank ≡ (0, x)
     unfolding lateOutcome
     blank-done {x} e =
         let z : take {A = ℕ} s (replicate 4096 0) ≡ replicate s 0 = take-zeros s 4096 blank-size in
-        let y : Triple = sealInto (mirror (keyFrom k)) i s i (replicate s 0) allPlaces v in
-        let same : x ≡ y = e ∙ (λ j. sealInto (mirror (keyFrom k)) i (prefix-size s 0 blank-size j) i (z j) allPlaces v) in
+        let y : Triple = sealInto (mirror (keyFrom k) volume) i s i (replicate s 0) allPlaces v in
+        let same : x ≡ y = e ∙ (λ j. sealInto (mirror (keyFrom k) volume) i (prefix-size s 0 blank-size j) i (z j) allPlaces v) in
         call-done blank checks q (ap (λ (u : Triple). (0, u)) (sym same))
 
   -- ---- read
@@ -91,7 +91,7 @@ module _ (k : List ℕ) (s n i : ℕ) (l g r : List ℕ) where
     pub read-within : d ≡ D.Done → (isKey (keyFrom k) ≡ true) × Within s i (length l) (length g) (length r) × (length out ≡ s)
     read-within q = let w = call-within (read (length out)) checks q in (w .0, w .1, long (length out) checks q)
 
-    pub read-done : d ≡ D.Done → {x : ℕ × List ℕ} → verdictOutcome (judge (mirror (keyFrom k)) i (sector v a)) out ≡ x → readOutcome mirror v a out ≡ x
+    pub read-done : d ≡ D.Done → {x : ℕ × List ℕ} → verdictOutcome (judge (mirror (keyFrom k) volume) i (sector v a)) out ≡ x → readOutcome mirror v a out ≡ x
     read-done q x = read-late mirror v a out (answered (read (length out)) checks q) ∙ x
 
     pub read-refused : {f : Refusal} → d ≡ D.Refused f → readOutcome mirror v a out ≡ (refusalNumber f, out)

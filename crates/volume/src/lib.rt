@@ -18,6 +18,7 @@ ghost use Rattle.stages.specs.Inner.{allPlaces, sealInto, lateOutcome};
 
 fn read_checked(
     key: &[u8],
+    volume: u64,
     s: usize,
     i: usize,
     local: &[u8],
@@ -26,11 +27,11 @@ fn read_checked(
     out: &mut [u8],
 ) -> Judged
     requires { ⌜ (isKey (keyFrom (now key)) ≡ true) × Within s i (length (now local)) (length (now tags)) (length (now remote)) × (length (now out) ≡ s) ⌝ }
-    ensures { λ r. ⌜ verdictOutcome (judge (mirror (keyFrom (now (key .entry)))) i (placesOf s i (now (local .entry)) (now (tags .entry)) (now (remote .entry)))) (now (out .entry)) ≡ (judgedNumber r, now (out .exit)) ⌝ }
+    ensures { λ r. ⌜ verdictOutcome (judge (mirror (keyFrom (now (key .entry))) volume) i (placesOf s i (now (local .entry)) (now (tags .entry)) (now (remote .entry)))) (now (out .entry)) ≡ (judgedNumber r, now (out .exit)) ⌝ }
 {
     let t = aes::table();
     let k = mode::prepare(&t, key);
-    let ctx = mode::context_at(k.masks, 0, i as u64);
+    let ctx = mode::context_at(k.masks, volume, i as u64);
     let mut sum = [0u8; 4096];
     let mut scratch = [0u8; 4096];
     images::judge_part(
@@ -51,6 +52,7 @@ fn read_checked(
 
 fn first_checked(
     key: &[u8],
+    volume: u64,
     p: &[u8],
     i: usize,
     local: &mut [u8],
@@ -58,11 +60,11 @@ fn first_checked(
     remote: &[u8],
 ) -> Done
     requires { ⌜ (isKey (keyFrom (now key)) ≡ true) × Within (length (now p)) i (length (now local)) (length (now tags)) (length (now remote)) ⌝ }
-    ensures { λ r. ⌜ lateOutcome (mirror (keyFrom (now (key .entry)))) i (length (now (p .entry))) i (triple (now (local .entry)) (now (tags .entry)) (now (remote .entry))) (W.first (now (p .entry))) ≡ (doneNumber r, triple (now (local .exit)) (now (tags .entry)) (now (remote .entry))) ⌝ }
+    ensures { λ r. ⌜ lateOutcome (mirror (keyFrom (now (key .entry))) volume) i (length (now (p .entry))) i (triple (now (local .entry)) (now (tags .entry)) (now (remote .entry))) (W.first (now (p .entry))) ≡ (doneNumber r, triple (now (local .exit)) (now (tags .entry)) (now (remote .entry))) ⌝ }
 {
     let t = aes::table();
     let k = mode::prepare(&t, key);
-    let ctx = mode::context_at(k.masks, 0, i as u64);
+    let ctx = mode::context_at(k.masks, volume, i as u64);
     let s = p.len();
     let mut plain = [0u8; 4096];
     let mut sum = [0u8; 4096];
@@ -85,6 +87,7 @@ fn first_checked(
 
 fn second_checked(
     key: &[u8],
+    volume: u64,
     p: &[u8],
     i: usize,
     local: &[u8],
@@ -92,11 +95,11 @@ fn second_checked(
     remote: &[u8],
 ) -> Done
     requires { ⌜ (isKey (keyFrom (now key)) ≡ true) × Within (length (now p)) i (length (now local)) (length (now tags)) (length (now remote)) ⌝ }
-    ensures { λ r. ⌜ lateOutcome (mirror (keyFrom (now (key .entry)))) i (length (now (p .entry))) i (triple (now (local .entry)) (now (tags .entry)) (now (remote .entry))) (W.second (now (p .entry))) ≡ (doneNumber r, triple (now (local .entry)) (now (tags .exit)) (now (remote .entry))) ⌝ }
+    ensures { λ r. ⌜ lateOutcome (mirror (keyFrom (now (key .entry))) volume) i (length (now (p .entry))) i (triple (now (local .entry)) (now (tags .entry)) (now (remote .entry))) (W.second (now (p .entry))) ≡ (doneNumber r, triple (now (local .entry)) (now (tags .exit)) (now (remote .entry))) ⌝ }
 {
     let t = aes::table();
     let k = mode::prepare(&t, key);
-    let ctx = mode::context_at(k.masks, 0, i as u64);
+    let ctx = mode::context_at(k.masks, volume, i as u64);
     let s = p.len();
     let mut scratch = [0u8; 4096];
     stages::second_in(
@@ -115,6 +118,7 @@ fn second_checked(
 
 fn third_checked(
     key: &[u8],
+    volume: u64,
     p: &[u8],
     i: usize,
     local: &[u8],
@@ -122,11 +126,11 @@ fn third_checked(
     remote: &mut [u8],
 ) -> Done
     requires { ⌜ (isKey (keyFrom (now key)) ≡ true) × Within (length (now p)) i (length (now local)) (length (now tags)) (length (now remote)) ⌝ }
-    ensures { λ r. ⌜ lateOutcome (mirror (keyFrom (now (key .entry)))) i (length (now (p .entry))) i (triple (now (local .entry)) (now (tags .entry)) (now (remote .entry))) (W.third (now (p .entry))) ≡ (doneNumber r, triple (now (local .entry)) (now (tags .entry)) (now (remote .exit))) ⌝ }
+    ensures { λ r. ⌜ lateOutcome (mirror (keyFrom (now (key .entry))) volume) i (length (now (p .entry))) i (triple (now (local .entry)) (now (tags .entry)) (now (remote .entry))) (W.third (now (p .entry))) ≡ (doneNumber r, triple (now (local .entry)) (now (tags .entry)) (now (remote .exit))) ⌝ }
 {
     let t = aes::table();
     let k = mode::prepare(&t, key);
-    let ctx = mode::context_at(k.masks, 0, i as u64);
+    let ctx = mode::context_at(k.masks, volume, i as u64);
     let s = p.len();
     let mut scratch = [0u8; 4096];
     stages::third_in(
@@ -145,6 +149,7 @@ fn third_checked(
 
 fn blank_checked(
     key: &[u8],
+    volume: u64,
     p: &[u8],
     i: usize,
     local: &mut [u8],
@@ -152,16 +157,17 @@ fn blank_checked(
     remote: &mut [u8],
 )
     requires { ⌜ (isKey (keyFrom (now key)) ≡ true) × Within (length (now p)) i (length (now local)) (length (now tags)) (length (now remote)) ⌝ }
-    ensures { λ _. ⌜ triple (now (local .exit)) (now (tags .exit)) (now (remote .exit)) ≡ sealInto (mirror (keyFrom (now (key .entry)))) i (length (now (p .entry))) i (now (p .entry)) allPlaces (triple (now (local .entry)) (now (tags .entry)) (now (remote .entry))) ⌝ }
+    ensures { λ _. ⌜ triple (now (local .exit)) (now (tags .exit)) (now (remote .exit)) ≡ sealInto (mirror (keyFrom (now (key .entry))) volume) i (length (now (p .entry))) i (now (p .entry)) allPlaces (triple (now (local .entry)) (now (tags .entry)) (now (remote .entry))) ⌝ }
 {
     let t = aes::table();
     let k = mode::prepare(&t, key);
-    let ctx = mode::context_at(k.masks, 0, i as u64);
+    let ctx = mode::context_at(k.masks, volume, i as u64);
     stages::write_all(&t, &k.words, &k.powers, ctx, p, i, local, tags, remote);
 }
 
 fn mend_checked(
     key: &[u8],
+    volume: u64,
     s: usize,
     i: usize,
     local: &mut [u8],
@@ -169,11 +175,11 @@ fn mend_checked(
     remote: &mut [u8],
 ) -> Judged
     requires { ⌜ (isKey (keyFrom (now key)) ≡ true) × Within s i (length (now local)) (length (now tags)) (length (now remote)) ⌝ }
-    ensures { λ r. ⌜ lateOutcome (mirror (keyFrom (now (key .entry)))) i s i (triple (now (local .entry)) (now (tags .entry)) (now (remote .entry))) W.mend ≡ (judgedNumber r, triple (now (local .exit)) (now (tags .exit)) (now (remote .exit))) ⌝ }
+    ensures { λ r. ⌜ lateOutcome (mirror (keyFrom (now (key .entry))) volume) i s i (triple (now (local .entry)) (now (tags .entry)) (now (remote .entry))) W.mend ≡ (judgedNumber r, triple (now (local .exit)) (now (tags .exit)) (now (remote .exit))) ⌝ }
 {
     let t = aes::table();
     let k = mode::prepare(&t, key);
-    let ctx = mode::context_at(k.masks, 0, i as u64);
+    let ctx = mode::context_at(k.masks, volume, i as u64);
     let mut plain = [0u8; 4096];
     let mut sum = [0u8; 4096];
     let mut scratch = [0u8; 4096];
@@ -196,6 +202,7 @@ fn mend_checked(
 // Writes p's local sector to sector i, if the sector is whole.
 pub fn first_stage(
     key: &[u8],
+    volume: u64,
     s: usize,
     n: usize,
     i: usize,
@@ -204,7 +211,7 @@ pub fn first_stage(
     tags: &[u8],
     remote: &[u8],
 ) -> Done
-    ensures { λ r. ⌜ outcome mirror (triple (now (local .entry)) (now (tags .entry)) (now (remote .entry))) (args (keyFrom (now (key .entry))) s n i) (W.first (now (p .entry))) ≡ (doneNumber r, triple (now (local .exit)) (now (tags .entry)) (now (remote .entry))) ⌝ }
+    ensures { λ r. ⌜ outcome mirror (triple (now (local .entry)) (now (tags .entry)) (now (remote .entry))) (args (keyFrom (now (key .entry))) volume s n i) (W.first (now (p .entry))) ≡ (doneNumber r, triple (now (local .exit)) (now (tags .entry)) (now (remote .entry))) ⌝ }
 {
     let checked = answers::check_sector_and_length(
         key,
@@ -217,7 +224,7 @@ pub fn first_stage(
         p.len(),
     );
     match checked {
-        Done::Done => first_checked(key, p, i, local, tags, remote),
+        Done::Done => first_checked(key, volume, p, i, local, tags, remote),
         Done::Refused(f) => Done::Refused(f),
     }
 }
@@ -225,6 +232,7 @@ pub fn first_stage(
 // Writes p's tag to sector i, if p fits the local place.
 pub fn second_stage(
     key: &[u8],
+    volume: u64,
     s: usize,
     n: usize,
     i: usize,
@@ -233,7 +241,7 @@ pub fn second_stage(
     tags: &mut [u8],
     remote: &[u8],
 ) -> Done
-    ensures { λ r. ⌜ outcome mirror (triple (now (local .entry)) (now (tags .entry)) (now (remote .entry))) (args (keyFrom (now (key .entry))) s n i) (W.second (now (p .entry))) ≡ (doneNumber r, triple (now (local .entry)) (now (tags .exit)) (now (remote .entry))) ⌝ }
+    ensures { λ r. ⌜ outcome mirror (triple (now (local .entry)) (now (tags .entry)) (now (remote .entry))) (args (keyFrom (now (key .entry))) volume s n i) (W.second (now (p .entry))) ≡ (doneNumber r, triple (now (local .entry)) (now (tags .exit)) (now (remote .entry))) ⌝ }
 {
     let checked = answers::check_sector_and_length(
         key,
@@ -246,7 +254,7 @@ pub fn second_stage(
         p.len(),
     );
     match checked {
-        Done::Done => second_checked(key, p, i, local, tags, remote),
+        Done::Done => second_checked(key, volume, p, i, local, tags, remote),
         Done::Refused(f) => Done::Refused(f),
     }
 }
@@ -254,6 +262,7 @@ pub fn second_stage(
 // Writes p's remote sector to sector i, if p fits the local place and the tag.
 pub fn third_stage(
     key: &[u8],
+    volume: u64,
     s: usize,
     n: usize,
     i: usize,
@@ -262,7 +271,7 @@ pub fn third_stage(
     tags: &[u8],
     remote: &mut [u8],
 ) -> Done
-    ensures { λ r. ⌜ outcome mirror (triple (now (local .entry)) (now (tags .entry)) (now (remote .entry))) (args (keyFrom (now (key .entry))) s n i) (W.third (now (p .entry))) ≡ (doneNumber r, triple (now (local .entry)) (now (tags .entry)) (now (remote .exit))) ⌝ }
+    ensures { λ r. ⌜ outcome mirror (triple (now (local .entry)) (now (tags .entry)) (now (remote .entry))) (args (keyFrom (now (key .entry))) volume s n i) (W.third (now (p .entry))) ≡ (doneNumber r, triple (now (local .entry)) (now (tags .entry)) (now (remote .exit))) ⌝ }
 {
     let checked = answers::check_sector_and_length(
         key,
@@ -275,7 +284,7 @@ pub fn third_stage(
         p.len(),
     );
     match checked {
-        Done::Done => third_checked(key, p, i, local, tags, remote),
+        Done::Done => third_checked(key, volume, p, i, local, tags, remote),
         Done::Refused(f) => Done::Refused(f),
     }
 }
@@ -283,6 +292,7 @@ pub fn third_stage(
 // Gives sector i's plaintext with whole or the doubtful place.
 pub fn read(
     key: &[u8],
+    volume: u64,
     s: usize,
     n: usize,
     i: usize,
@@ -291,7 +301,7 @@ pub fn read(
     remote: &[u8],
     out: &mut [u8],
 ) -> Judged
-    ensures { λ r. ⌜ readOutcome mirror (triple (now (local .entry)) (now (tags .entry)) (now (remote .entry))) (args (keyFrom (now (key .entry))) s n i) (now (out .entry)) ≡ (judgedNumber r, now (out .exit)) ⌝ }
+    ensures { λ r. ⌜ readOutcome mirror (triple (now (local .entry)) (now (tags .entry)) (now (remote .entry))) (args (keyFrom (now (key .entry))) volume s n i) (now (out .entry)) ≡ (judgedNumber r, now (out .exit)) ⌝ }
 {
     let checked = answers::check_sector_and_length(
         key,
@@ -304,7 +314,7 @@ pub fn read(
         out.len(),
     );
     match checked {
-        Done::Done => read_checked(key, s, i, local, tags, remote, out),
+        Done::Done => read_checked(key, volume, s, i, local, tags, remote, out),
         Done::Refused(f) => Judged::Refused(f),
     }
 }
@@ -312,6 +322,7 @@ pub fn read(
 // Writes sector i's doubtful place as the one plaintext seals, and gives the verdict found.
 pub fn mend(
     key: &[u8],
+    volume: u64,
     s: usize,
     n: usize,
     i: usize,
@@ -319,11 +330,11 @@ pub fn mend(
     tags: &mut [u8],
     remote: &mut [u8],
 ) -> Judged
-    ensures { λ r. ⌜ outcome mirror (triple (now (local .entry)) (now (tags .entry)) (now (remote .entry))) (args (keyFrom (now (key .entry))) s n i) W.mend ≡ (judgedNumber r, triple (now (local .exit)) (now (tags .exit)) (now (remote .exit))) ⌝ }
+    ensures { λ r. ⌜ outcome mirror (triple (now (local .entry)) (now (tags .entry)) (now (remote .entry))) (args (keyFrom (now (key .entry))) volume s n i) W.mend ≡ (judgedNumber r, triple (now (local .exit)) (now (tags .exit)) (now (remote .exit))) ⌝ }
 {
     let checked = answers::check_sector(key, s, n, i, local.len(), tags.len(), remote.len());
     match checked {
-        Done::Done => mend_checked(key, s, i, local, tags, remote),
+        Done::Done => mend_checked(key, volume, s, i, local, tags, remote),
         Done::Refused(f) => Judged::Refused(f),
     }
 }
@@ -331,6 +342,7 @@ pub fn mend(
 // Seals zeros into the three places of sector i.
 pub fn blank(
     key: &[u8],
+    volume: u64,
     s: usize,
     n: usize,
     i: usize,
@@ -338,13 +350,13 @@ pub fn blank(
     tags: &mut [u8],
     remote: &mut [u8],
 ) -> Done
-    ensures { λ r. ⌜ outcome mirror (triple (now (local .entry)) (now (tags .entry)) (now (remote .entry))) (args (keyFrom (now (key .entry))) s n i) W.blank ≡ (doneNumber r, triple (now (local .exit)) (now (tags .exit)) (now (remote .exit))) ⌝ }
+    ensures { λ r. ⌜ outcome mirror (triple (now (local .entry)) (now (tags .entry)) (now (remote .entry))) (args (keyFrom (now (key .entry))) volume s n i) W.blank ≡ (doneNumber r, triple (now (local .exit)) (now (tags .exit)) (now (remote .exit))) ⌝ }
 {
     let checked = answers::check_sector(key, s, n, i, local.len(), tags.len(), remote.len());
     match checked {
         Done::Done => {
             let zeros = [0u8; 4096];
-            blank_checked(key, &zeros[..s], i, local, tags, remote);
+            blank_checked(key, volume, &zeros[..s], i, local, tags, remote);
             Done::Done
         }
         Done::Refused(f) => Done::Refused(f),

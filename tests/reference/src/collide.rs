@@ -18,25 +18,31 @@ pub fn blind_pair(h: Block, plaintext: &[Block], change: Block) -> (Vec<Block>, 
     (one, other)
 }
 
-/// Changes block 2 of `other` so that its tag at this address is that of
-/// `plaintext`. Gives nothing where block 2 has no say in the hash.
-pub fn steer(h: Block, address: u64, plaintext: &[Block], other: &[Block]) -> Option<Vec<Block>> {
+/// Changes block 2 of `other` so that its tag at this address of this volume is
+/// that of `plaintext`. Gives nothing where block 2 has no say in the hash.
+pub fn steer(
+    h: Block,
+    volume: u64,
+    address: u64,
+    plaintext: &[Block],
+    other: &[Block],
+) -> Option<Vec<Block>> {
     let with_block_2 = |block| {
         let mut blocks = other.to_vec();
         blocks[1] = block;
         blocks
     };
-    let at_zero = hash(h, address, &with_block_2(0));
-    let slope = hash(h, address, &with_block_2(1)) ^ at_zero;
+    let at_zero = hash(h, volume, address, &with_block_2(0));
+    let slope = hash(h, volume, address, &with_block_2(1)) ^ at_zero;
     if slope == 0 {
         return None;
     }
-    let rise = hash(h, address, plaintext) ^ at_zero;
+    let rise = hash(h, volume, address, plaintext) ^ at_zero;
     Some(with_block_2(product(rise, inverse(slope))))
 }
 
-fn hash(h: Block, address: u64, plaintext: &[Block]) -> Block {
+fn hash(h: Block, volume: u64, address: u64, plaintext: &[Block]) -> Block {
     let mut blocks = plaintext.to_vec();
-    blocks.push(tweak(address));
+    blocks.push(tweak(volume, address));
     brw(h, &blocks)
 }

@@ -9,6 +9,9 @@ const MAX_DIGITS: usize = 16_498;
 
 const ADDRESS_BYTES: usize = 8;
 
+/// The volume's number of every frame, which has no field for another.
+pub const VOLUME: u64 = 0;
+
 /// Everything in a frame of kind `01` but the two sectors.
 const JUDGE_FRAME_BYTES: usize = 1 + KEY_BYTES + ADDRESS_BYTES + TAG_BYTES;
 
@@ -75,7 +78,7 @@ fn answer_judge(fields: &[u8]) -> Result<(u8, Vec<u8>), Refusal> {
     let (tag, remote) = fields.split_at(TAG_BYTES);
     let address = u64::from_be_bytes(address.try_into().expect("an address has 8 bytes"));
     let mut plaintext = vec![0; size];
-    let verdict = judge(key, address, local, tag, remote, &mut plaintext)?;
+    let verdict = judge(key, VOLUME, address, local, tag, remote, &mut plaintext)?;
     Ok((verdict.number(), plaintext))
 }
 

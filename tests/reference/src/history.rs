@@ -1,8 +1,9 @@
 //! Random histories of volumes, with the plain machine beside them.
 //!
 //! Every event is staged as the rules of a cut and of damage allow, and after
-//! every event each sector is held against what the machine says is kept. The
-//! calls are a parameter, so that any implementation can be put to the test.
+//! every event each sector is held against what the machine says is kept. A
+//! history is that of one key and one volume's number. The calls are a
+//! parameter, so that any implementation can be put to the test.
 
 use std::collections::BTreeMap;
 
@@ -21,6 +22,8 @@ const FILL: u8 = 0x5a;
 #[derive(Clone)]
 pub struct Given {
     pub key: Vec<u8>,
+    /// The volume's number.
+    pub volume: u64,
     pub size: usize,
     pub count: usize,
 }
@@ -48,33 +51,49 @@ pub struct Reference;
 
 impl Calls for Reference {
     fn run(&self, request: &Request, images: &mut Images, output: &mut [u8]) -> Answer {
-        let Given { key, size, count } = &request.given;
-        let (size, count, number) = (*size, *count, request.number);
+        let Given {
+            ref key,
+            volume,
+            size,
+            count,
+        } = request.given;
         let Images { local, tag, remote } = images;
-        let text = &request.plaintext;
+        let (number, text) = (request.number, &request.plaintext);
         let done = |()| None;
         match request.kind {
-            Kind::Blank => volume::blank(key, size, count, local, tag, remote, number).map(done),
+            Kind::Blank => {
+                volume::blank(key, volume, size, count, local, tag, remote, number).map(done)
+            }
             Kind::First => {
-                volume::first_stage(key, size, count, local, tag, remote, number, text).map(done)
+                volume::first_stage(key, volume, size, count, local, tag, remote, number, text)
+                    .map(done)
             }
             Kind::Second => {
-                volume::second_stage(key, size, count, local, tag, remote, number, text).map(done)
+                volume::second_stage(key, volume, size, count, local, tag, remote, number, text)
+                    .map(done)
             }
             Kind::Third => {
-                volume::third_stage(key, size, count, local, tag, remote, number, text).map(done)
+                volume::third_stage(key, volume, size, count, local, tag, remote, number, text)
+                    .map(done)
             }
-            Kind::Mend => volume::mend(key, size, count, local, tag, remote, number).map(Some),
+            Kind::Mend => {
+                volume::mend(key, volume, size, count, local, tag, remote, number).map(Some)
+            }
             Kind::Read => {
-                volume::read(key, size, count, local, tag, remote, number, output).map(Some)
+                volume::read(key, volume, size, count, local, tag, remote, number, output).map(Some)
             }
         }
     }
 
     fn survey(&self, given: &Given, images: &Images, list: &mut [u32]) -> Result<Survey, Refusal> {
-        let Given { key, size, count } = given;
+        let Given {
+            ref key,
+            volume,
+            size,
+            count,
+        } = *given;
         let Images { local, tag, remote } = images;
-        volume::survey(key, *size, *count, local, tag, remote, list)
+        volume::survey(key, volume, size, count, local, tag, remote, list)
     }
 }
 
@@ -218,7 +237,7 @@ impl<'a> History<'a> {
             plaintext,
             output: self.given.size,
         };
-        if self.rng.chance(8) {
+        if self.rng.chance(15) {
             self.spoil(&mut request);
         }
         request
@@ -256,7 +275,7 @@ impl<'a> History<'a> {
 
     /// Gives the call something that is not the volume's.
     fn spoil(&mut self, request: &mut Request) {
-        match self.rng.below(8) {
+        match self.rng.below(15) {
             0 => request.given.key = self.rng.bytes(31),
             1 => request.given.key = self.rng.bytes(32),
             2 => request.given.size += 1,
@@ -264,10 +283,30 @@ impl<'a> History<'a> {
             4 => request.given.count += 1,
             5 => request.given.count = 0,
             6 => request.number = request.given.count + self.rng.below(3),
-            _ => {
+            7 => {
                 request.plaintext.push(0);
                 request.output += 1;
             }
+            // Most often, since only the verdict can refuse it.
+            _ => request.given.volume = self.other_volume(),
+        }
+    }
+
+    /// A number that is not the volume's: one bit away, with its bytes in the
+    /// other order, or anything.
+    fn other_volume(&mut self) -> u64 {
+        let own = self.given.volume;
+        let other = match self.rng.below(5) {
+            0 => 0,
+            1 => u64::MAX,
+            2 => own ^ (1 << self.rng.below(64)),
+            3 => own.swap_bytes(),
+            _ => self.rng.next_u64(),
+        };
+        if other == own {
+            !own
+        } else {
+            other
         }
     }
 
@@ -275,6 +314,7 @@ impl<'a> History<'a> {
         let before = self.images.clone();
         let mut after = before.clone();
         let outcome = self.run(request, &mut after);
+        self.insist_on_answer(request, outcome);
         let cut = self.rng.chance(30);
         let Ok(found) = outcome else {
             assert!(after == before, "a refused call wrote");
@@ -282,8 +322,9 @@ impl<'a> History<'a> {
             self.tell(request, ending(cut, tag_is_new), true);
             return;
         };
-        if request.given.key != self.given.key {
-            // Only a call that is refused may come with another key.
+        let Given { key, volume, .. } = &request.given;
+        if *key != self.given.key || *volume != self.given.volume {
+            // Only a call that is refused may come with another key or number.
             return;
         }
         let written = request.written(found);
@@ -316,6 +357,21 @@ impl<'a> History<'a> {
             (false, Ending::Cut { .. }) => "cut",
         };
         self.tally.add(&format!("{:?} {how}", request.kind));
+        if request.given.volume != self.given.volume
+            && *self.machine.sector(request.number) != Sector::Gone
+        {
+            self.tally
+                .add(&format!("{:?} {how} under another number", request.kind));
+        }
+    }
+
+    /// The answer is this package's. The machine would not notice a call that
+    /// takes one number for another: what it refuses changes nothing, and what
+    /// it accepts under another number is left out.
+    fn insist_on_answer(&self, request: &Request, answer: Answer) {
+        let mut output = vec![FILL; request.output];
+        let due = Reference.run(request, &mut self.images.clone(), &mut output);
+        assert_eq!(answer, due, "another answer to {:?}", request.kind);
     }
 
     /// No byte but those of the places due may differ.
@@ -379,7 +435,7 @@ impl<'a> History<'a> {
     fn damaged_bytes(&mut self, number: usize, place: Place) -> Vec<u8> {
         let size = self.given.size;
         let mut bytes = self.images.place(size, number, place).to_vec();
-        match self.rng.below(6) {
+        match self.rng.below(7) {
             0 => self.rng.fill(&mut bytes),
             1 => bytes.fill(0),
             2 => {
@@ -391,9 +447,14 @@ impl<'a> History<'a> {
                 let elsewhere = self.rng.below(self.given.count);
                 bytes = self.images.place(size, elsewhere, place).to_vec();
             }
-            _ => {
+            5 => {
                 let plaintext = self.rng.pick(&self.pool).clone();
-                let sealed = sealed(&self.given.key, number as u64, &plaintext);
+                bytes = self.sealed(number, &plaintext).place(place).to_vec();
+            }
+            _ => {
+                let (key, other) = (self.given.key.clone(), self.other_volume());
+                let plaintext = self.rng.pick(&self.pool);
+                let sealed = sealed(&key, other, number as u64, plaintext);
                 bytes = sealed.place(place).to_vec();
             }
         }
@@ -447,6 +508,14 @@ impl<'a> History<'a> {
         Sealed { local, tag, remote }
     }
 
+    /// What the three places hold where this plaintext is sealed.
+    fn sealed(&self, number: usize, plaintext: &[u8]) -> Sealed {
+        let Given {
+            ref key, volume, ..
+        } = self.given;
+        sealed(key, volume, number as u64, plaintext)
+    }
+
     fn check(&mut self, number: usize) {
         match self.machine.sector(number).clone() {
             Sector::Gone => self.tally.add("seen gone"),
@@ -475,7 +544,7 @@ impl<'a> History<'a> {
             let mut images = self.images.clone();
             let first = self.request(Kind::First, number, &new);
             assert_eq!(self.run(&first, &mut images), Ok(None));
-            let sealed = sealed(&self.given.key, number as u64, &new);
+            let sealed = self.sealed(number, &new);
             let local = images.place(self.given.size, number, Place::Local);
             assert_eq!(local, sealed.local);
             self.insist_on_writes(&self.images, &images, number, &[Place::Local]);
@@ -492,7 +561,7 @@ impl<'a> History<'a> {
             return;
         }
         let held = self.held(number);
-        let sealed = sealed(&self.given.key, number as u64, &plaintext);
+        let sealed = self.sealed(number, &plaintext);
         let verdict = if sealed.place(place) == held.place(place) {
             self.tally.add("seen whole in doubt");
             Verdict::Whole
@@ -511,11 +580,14 @@ impl<'a> History<'a> {
     /// Whether a plaintext other than this one fits two places. What can fit
     /// two places is had from either side with the tag, or from both sides.
     fn another_fits_two(&self, number: usize, plaintext: &[u8]) -> bool {
-        let (key, address) = (&self.given.key, number as u64);
+        let Given {
+            ref key, volume, ..
+        } = self.given;
+        let address = number as u64;
         let held = self.held(number);
         let mut output = vec![0; self.given.size];
         for (side, sector) in [(0, &held.local), (1, &held.remote)] {
-            let opened = seal::open(key, address, side, sector, &held.tag, &mut output);
+            let opened = seal::open(key, volume, address, side, sector, &held.tag, &mut output);
             if opened.is_ok() && output != plaintext {
                 return true;
             }
@@ -524,7 +596,7 @@ impl<'a> History<'a> {
             seal::combine(&held.local, &held.remote, &mut output),
             Ok(())
         );
-        let sealed = sealed(key, address, &output);
+        let sealed = self.sealed(number, &output);
         sealed.local == held.local && sealed.remote == held.remote && output != plaintext
     }
 
@@ -594,6 +666,18 @@ fn ending(cut: bool, tag_is_new: bool) -> Ending {
     }
 }
 
+/// A volume's number: either end of the range, the first that is not 0, or any.
+fn draw_volume(rng: &mut Rng, tally: &mut Tally) -> u64 {
+    let (what, volume) = match rng.below(4) {
+        0 => ("number 0", 0),
+        1 => ("number 1", 1),
+        2 => ("largest number", u64::MAX),
+        _ => ("any number", rng.next_u64()),
+    };
+    tally.add(&format!("history under {what}"));
+    volume
+}
+
 /// Zeros, random plaintexts, and from two blocks on pairs of equal tags.
 fn make_pool(rng: &mut Rng, key: &[u8], size: usize) -> Vec<Vec<u8>> {
     let mut pool = vec![vec![0; size], vec![0xff; size]];
@@ -610,8 +694,9 @@ fn make_pool(rng: &mut Rng, key: &[u8], size: usize) -> Vec<Vec<u8>> {
 }
 
 /// Runs histories of `events` events on each of several volumes for each seed,
-/// with keys of any h and of h zero, where all plaintexts share a tag and
-/// clashes abound. Gives how often each thing was seen.
+/// each under a number of its own, with keys of any h and of h zero, where all
+/// plaintexts share a tag and clashes abound. Gives how often each thing was
+/// seen.
 pub fn run_histories(
     calls: &dyn Calls,
     seeds: std::ops::Range<u64>,
@@ -627,7 +712,12 @@ pub fn run_histories(
                 if h_is_zero {
                     key[..16].fill(0);
                 }
-                let given = Given { key, size, count };
+                let given = Given {
+                    key,
+                    volume: draw_volume(&mut rng, &mut tally),
+                    size,
+                    count,
+                };
                 let mut history = History::new(calls, rng, given, &mut tally);
                 for _ in 0..events {
                     history.step();
@@ -644,6 +734,11 @@ pub fn insist_on_variety(tally: &Tally) {
         for how in ["finished", "cut", "refused"] {
             assert!(tally.get(&format!("{kind} {how}")) > 0, "{kind} {how}");
         }
+    }
+    // A blank has no verdict to refuse another number by.
+    for kind in ["First", "Second", "Third", "Mend", "Read"] {
+        let what = format!("{kind} refused under another number");
+        assert!(tally.get(&what) > 0, "{what}");
     }
     for what in [
         "Damage",

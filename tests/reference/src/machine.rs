@@ -51,7 +51,7 @@ pub enum Sector {
     },
 }
 
-/// The machine for one volume.
+/// The machine for one volume, which is that of one key and one number.
 #[derive(Clone, Debug)]
 pub struct Machine {
     size: usize,

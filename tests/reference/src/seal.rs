@@ -1,4 +1,7 @@
-//! The sealed sector: sealing, the verdict, and the calls without a volume.
+//! The sealed sector: sealing, the verdict, and the calls without images.
+//!
+//! `volume` is the volume's number, which sets the sectors of one volume apart
+//! from those of another under the same key.
 
 use crate::aes::Aes128;
 use crate::answer::{Place, Refusal, Verdict};
@@ -76,10 +79,10 @@ impl Sealer {
         })
     }
 
-    /// The tag of a plaintext at an address.
-    pub fn tag(&self, address: u64, plaintext: &[Block]) -> Block {
+    /// The tag of a plaintext at an address of a volume.
+    pub fn tag(&self, volume: u64, address: u64, plaintext: &[Block]) -> Block {
         let mut hashed = plaintext.to_vec();
-        hashed.push(tweak(address));
+        hashed.push(tweak(volume, address));
         self.cipher
             .encrypt(product(self.h, brw(self.h, &hashed)) ^ self.alpha)
     }
@@ -92,8 +95,8 @@ impl Sealer {
     }
 
     /// Seals a plaintext into three places.
-    pub fn seal(&self, address: u64, plaintext: &[Block]) -> Triple {
-        let tag = self.tag(address, plaintext);
+    pub fn seal(&self, volume: u64, address: u64, plaintext: &[Block]) -> Triple {
+        let tag = self.tag(volume, address, plaintext);
         let (local, remote) = self
             .pads(tag)
             .zip(plaintext)
@@ -115,8 +118,8 @@ impl Sealer {
     }
 
     /// Which places a plaintext fits, in the order local, tag, remote.
-    pub fn fits(&self, address: u64, plaintext: &[Block], held: &Triple) -> [bool; 3] {
-        let sealed = self.seal(address, plaintext);
+    pub fn fits(&self, volume: u64, address: u64, plaintext: &[Block], held: &Triple) -> [bool; 3] {
+        let sealed = self.seal(volume, address, plaintext);
         [
             sealed.local == held.local,
             sealed.tag == held.tag,
@@ -125,12 +128,17 @@ impl Sealer {
     }
 
     /// The verdict on a triple, with its plaintext.
-    pub fn judge(&self, address: u64, held: &Triple) -> Result<(Verdict, Vec<Block>), Refusal> {
+    pub fn judge(
+        &self,
+        volume: u64,
+        address: u64,
+        held: &Triple,
+    ) -> Result<(Verdict, Vec<Block>), Refusal> {
         let mut fitting: Vec<(Verdict, Vec<Block>)> = self
             .candidates(held)
             .into_iter()
             .filter_map(|plaintext| {
-                let verdict = verdict_of(self.fits(address, &plaintext, held))?;
+                let verdict = verdict_of(self.fits(volume, address, &plaintext, held))?;
                 Some((verdict, plaintext))
             })
             .collect();
@@ -159,13 +167,14 @@ impl Sealer {
     /// The plaintext that fits a side and the tag, with its whole sealing.
     fn open(
         &self,
+        volume: u64,
         address: u64,
         side: Side,
         sector: &[Block],
         tag: Block,
     ) -> Result<(Vec<Block>, Triple), Refusal> {
         let plaintext = self.unseal(side, sector, tag);
-        let sealed = self.seal(address, &plaintext);
+        let sealed = self.seal(volume, address, &plaintext);
         let same_side = match side {
             Side::Local => sealed.local == sector,
             Side::Remote => sealed.remote == sector,
@@ -178,9 +187,10 @@ impl Sealer {
     }
 }
 
-/// The address as a block with its upper 8 bytes zero.
-pub fn tweak(address: u64) -> Block {
-    Block::from(address)
+/// The volume's number as the upper 8 bytes of a block and the address as the
+/// lower 8, both high byte first.
+pub fn tweak(volume: u64, address: u64) -> Block {
+    to_block(&[volume.to_be_bytes(), address.to_be_bytes()].concat())
 }
 
 /// One block of the local side.
@@ -206,6 +216,7 @@ pub fn check_sector_size(size: usize) -> Result<(), Refusal> {
 /// Seals a plaintext into the three outputs.
 pub fn seal(
     key: &[u8],
+    volume: u64,
     address: u64,
     plaintext: &[u8],
     local: &mut [u8],
@@ -217,7 +228,7 @@ pub fn seal(
     check_length(local, plaintext.len())?;
     check_length(remote, plaintext.len())?;
     check_length(tag, TAG_BYTES)?;
-    let sealed = sealer.seal(address, &to_blocks(plaintext));
+    let sealed = sealer.seal(volume, address, &to_blocks(plaintext));
     write_blocks(&sealed.local, local);
     write_blocks(&sealed.remote, remote);
     write_blocks(&[sealed.tag], tag);
@@ -227,6 +238,7 @@ pub fn seal(
 /// Judges three places and gives the plaintext.
 pub fn judge(
     key: &[u8],
+    volume: u64,
     address: u64,
     local: &[u8],
     tag: &[u8],
@@ -238,7 +250,8 @@ pub fn judge(
     check_length(remote, local.len())?;
     check_length(output, local.len())?;
     check_length(tag, TAG_BYTES)?;
-    let (verdict, plaintext) = sealer.judge(address, &Triple::from_bytes(local, tag, remote))?;
+    let (verdict, plaintext) =
+        sealer.judge(volume, address, &Triple::from_bytes(local, tag, remote))?;
     write_blocks(&plaintext, output);
     Ok(verdict)
 }
@@ -246,13 +259,14 @@ pub fn judge(
 /// Gives the plaintext that fits one side and the tag.
 pub fn open(
     key: &[u8],
+    volume: u64,
     address: u64,
     side: u8,
     sector: &[u8],
     tag: &[u8],
     output: &mut [u8],
 ) -> Result<(), Refusal> {
-    let (_, plaintext, _) = open_checked(key, address, side, sector, tag, output.len())?;
+    let (_, plaintext, _) = open_checked(key, volume, address, side, sector, tag, output.len())?;
     write_blocks(&plaintext, output);
     Ok(())
 }
@@ -260,13 +274,14 @@ pub fn open(
 /// Writes the other side of the one that survives.
 pub fn rebuild(
     key: &[u8],
+    volume: u64,
     address: u64,
     side: u8,
     sector: &[u8],
     tag: &[u8],
     output: &mut [u8],
 ) -> Result<(), Refusal> {
-    let (side, _, sealed) = open_checked(key, address, side, sector, tag, output.len())?;
+    let (side, _, sealed) = open_checked(key, volume, address, side, sector, tag, output.len())?;
     let other = match side {
         Side::Local => sealed.remote,
         Side::Remote => sealed.local,
@@ -289,6 +304,7 @@ pub fn combine(local: &[u8], remote: &[u8], output: &mut [u8]) -> Result<(), Ref
 /// What opening and rebuilding share: all refusals, then the opening.
 fn open_checked(
     key: &[u8],
+    volume: u64,
     address: u64,
     side: u8,
     sector: &[u8],
@@ -302,7 +318,8 @@ fn open_checked(
         return Err(Refusal::OtherLength);
     }
     let side = Side::from_number(side)?;
-    let (plaintext, sealed) = sealer.open(address, side, &to_blocks(sector), to_block(tag))?;
+    let (plaintext, sealed) =
+        sealer.open(volume, address, side, &to_blocks(sector), to_block(tag))?;
     Ok((side, plaintext, sealed))
 }
 
@@ -357,14 +374,14 @@ impl Sealed {
 }
 
 /// Seals a plaintext under a key, both of which must pass.
-pub fn sealed(key: &[u8], address: u64, plaintext: &[u8]) -> Sealed {
+pub fn sealed(key: &[u8], volume: u64, address: u64, plaintext: &[u8]) -> Sealed {
     let mut sealed = Sealed {
         local: vec![0; plaintext.len()],
         tag: vec![0; TAG_BYTES],
         remote: vec![0; plaintext.len()],
     };
     let Sealed { local, tag, remote } = &mut sealed;
-    let answer = seal(key, address, plaintext, local, remote, tag);
+    let answer = seal(key, volume, address, plaintext, local, remote, tag);
     assert_eq!(answer, Ok(()));
     sealed
 }

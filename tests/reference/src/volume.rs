@@ -1,7 +1,8 @@
 //! A volume of sealed sectors, held in three images.
 //!
 //! Every call is lent all three images, since refusal 8 looks at each of them;
-//! it is lent writable only those that it may write.
+//! it is lent writable only those that it may write. `volume` is the volume's
+//! number and `number` that of a sector.
 
 // The calls take what the requirement names, one parameter for each.
 #![allow(clippy::too_many_arguments)]
@@ -29,6 +30,7 @@ pub struct Survey {
 /// Seals zeros into all three places of one sector.
 pub fn blank(
     key: &[u8],
+    volume: u64,
     size: usize,
     count: usize,
     local: &mut [u8],
@@ -38,7 +40,7 @@ pub fn blank(
 ) -> Result<(), Refusal> {
     let sealer = check_sector(key, size, count, local, tag, remote, number)?;
     let zeros = vec![0; size / BLOCK_BYTES];
-    let sealed = sealer.seal(number as u64, &zeros);
+    let sealed = sealer.seal(volume, number as u64, &zeros);
     write_blocks(&sealed.local, &mut local[part(number, size)]);
     write_blocks(&[sealed.tag], &mut tag[part(number, TAG_BYTES)]);
     write_blocks(&sealed.remote, &mut remote[part(number, size)]);
@@ -48,6 +50,7 @@ pub fn blank(
 /// Writes the local sector of a plaintext over a whole sector.
 pub fn first_stage(
     key: &[u8],
+    volume: u64,
     size: usize,
     count: usize,
     local: &mut [u8],
@@ -59,9 +62,12 @@ pub fn first_stage(
     let sealer = check_sector(key, size, count, local, tag, remote, number)?;
     check_length(plaintext, size)?;
     let held = held(size, local, tag, remote, number);
-    let is_whole = matches!(sealer.judge(number as u64, &held), Ok((Verdict::Whole, _)));
+    let is_whole = matches!(
+        sealer.judge(volume, number as u64, &held),
+        Ok((Verdict::Whole, _))
+    );
     allow_stage(is_whole)?;
-    let sealed = sealer.seal(number as u64, &to_blocks(plaintext));
+    let sealed = sealer.seal(volume, number as u64, &to_blocks(plaintext));
     write_blocks(&sealed.local, &mut local[part(number, size)]);
     Ok(())
 }
@@ -69,6 +75,7 @@ pub fn first_stage(
 /// Writes the tag of a plaintext that fits the local place.
 pub fn second_stage(
     key: &[u8],
+    volume: u64,
     size: usize,
     count: usize,
     local: &[u8],
@@ -80,7 +87,7 @@ pub fn second_stage(
     let sealer = check_sector(key, size, count, local, tag, remote, number)?;
     check_length(plaintext, size)?;
     let held = held(size, local, tag, remote, number);
-    let sealed = sealer.seal(number as u64, &to_blocks(plaintext));
+    let sealed = sealer.seal(volume, number as u64, &to_blocks(plaintext));
     allow_stage(sealed.local == held.local)?;
     write_blocks(&[sealed.tag], &mut tag[part(number, TAG_BYTES)]);
     Ok(())
@@ -90,6 +97,7 @@ pub fn second_stage(
 /// tag.
 pub fn third_stage(
     key: &[u8],
+    volume: u64,
     size: usize,
     count: usize,
     local: &[u8],
@@ -101,7 +109,7 @@ pub fn third_stage(
     let sealer = check_sector(key, size, count, local, tag, remote, number)?;
     check_length(plaintext, size)?;
     let held = held(size, local, tag, remote, number);
-    let sealed = sealer.seal(number as u64, &to_blocks(plaintext));
+    let sealed = sealer.seal(volume, number as u64, &to_blocks(plaintext));
     allow_stage(sealed.local == held.local && sealed.tag == held.tag)?;
     write_blocks(&sealed.remote, &mut remote[part(number, size)]);
     Ok(())
@@ -110,6 +118,7 @@ pub fn third_stage(
 /// Judges one sector and gives its plaintext.
 pub fn read(
     key: &[u8],
+    volume: u64,
     size: usize,
     count: usize,
     local: &[u8],
@@ -121,7 +130,7 @@ pub fn read(
     let sealer = check_sector(key, size, count, local, tag, remote, number)?;
     check_length(output, size)?;
     let held = held(size, local, tag, remote, number);
-    let (verdict, plaintext) = sealer.judge(number as u64, &held)?;
+    let (verdict, plaintext) = sealer.judge(volume, number as u64, &held)?;
     write_blocks(&plaintext, output);
     Ok(verdict)
 }
@@ -130,6 +139,7 @@ pub fn read(
 /// found before.
 pub fn mend(
     key: &[u8],
+    volume: u64,
     size: usize,
     count: usize,
     local: &mut [u8],
@@ -139,9 +149,9 @@ pub fn mend(
 ) -> Result<Verdict, Refusal> {
     let sealer = check_sector(key, size, count, local, tag, remote, number)?;
     let held = held(size, local, tag, remote, number);
-    let (verdict, plaintext) = sealer.judge(number as u64, &held)?;
+    let (verdict, plaintext) = sealer.judge(volume, number as u64, &held)?;
     if let Verdict::Doubtful(place) = verdict {
-        let sealed = sealer.seal(number as u64, &plaintext);
+        let sealed = sealer.seal(volume, number as u64, &plaintext);
         match place {
             Place::Local => write_blocks(&sealed.local, &mut local[part(number, size)]),
             Place::Tag => write_blocks(&[sealed.tag], &mut tag[part(number, TAG_BYTES)]),
@@ -156,6 +166,7 @@ pub fn mend(
 /// clashing, then the doubtful, rising within each kind.
 pub fn survey(
     key: &[u8],
+    volume: u64,
     size: usize,
     count: usize,
     local: &[u8],
@@ -172,9 +183,9 @@ pub fn survey(
     let mut clashing = Vec::new();
     let mut doubtful = Vec::new();
     for number in 0..count {
-        let verdict = sealer
-            .judge(number as u64, &held(size, local, tag, remote, number))
-            .map(|(verdict, _)| verdict);
+        let held = held(size, local, tag, remote, number);
+        let judged = sealer.judge(volume, number as u64, &held);
+        let verdict = judged.map(|(verdict, _)| verdict);
         survey.add(verdict);
         match verdict {
             Ok(Verdict::Whole) => {}

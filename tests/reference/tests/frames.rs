@@ -119,7 +119,7 @@ fn verdicts() {
     for size in [16, 32, 48, 64, 512, LARGEST] {
         let (key, address) = (rng.bytes(32), rng.next_u64());
         let plaintext = rng.bytes(size);
-        let sealed = sealed(&key, address, &plaintext);
+        let sealed = sealed(&key, 0, address, &plaintext);
         let digits = hex::encode(&plaintext);
 
         let frame = judge_frame(&key, address, &sealed);
@@ -149,7 +149,7 @@ fn clash() {
     let zero = [&key[..16], &[0; 16]].concat();
     let mut one = zero.clone();
     one[31] = 1;
-    let mut held = sealed(&key, address, &zero);
-    held.remote = sealed(&key, address, &one).remote;
+    let mut held = sealed(&key, 0, address, &zero);
+    held.remote = sealed(&key, 0, address, &one).remote;
     assert_eq!(answer(&judge_frame(&key, address, &held)), "07\n");
 }

@@ -18,6 +18,7 @@ fn judged(key: &[u8], address: u64, held: &Sealed) -> (Result<Verdict, Refusal>,
     let mut output = vec![FILL; held.local.len()];
     let answer = judge(
         key,
+        0,
         address,
         &held.local,
         &held.tag,
@@ -44,7 +45,7 @@ fn round_trips() {
 
 fn round_trip(key: &[u8], address: u64, plaintext: &[u8]) {
     let size = plaintext.len();
-    let sealed = sealed(key, address, plaintext);
+    let sealed = sealed(key, 0, address, plaintext);
     assert_eq!(
         judged(key, address, &sealed),
         (Ok(Verdict::Whole), plaintext.to_vec())
@@ -58,11 +59,11 @@ fn round_trip(key: &[u8], address: u64, plaintext: &[u8]) {
     ];
     for (side, this, other) in sides {
         output.fill(FILL);
-        let answer = open(key, address, side, this, &sealed.tag, &mut output);
+        let answer = open(key, 0, address, side, this, &sealed.tag, &mut output);
         assert_eq!(answer, Ok(()));
         assert_eq!(output, plaintext);
         output.fill(FILL);
-        let answer = rebuild(key, address, side, this, &sealed.tag, &mut output);
+        let answer = rebuild(key, 0, address, side, this, &sealed.tag, &mut output);
         assert_eq!(answer, Ok(()));
         assert_eq!(output, *other);
     }
@@ -75,7 +76,7 @@ fn damage_gives_the_doubtful_place_or_lost() {
         for _ in 0..if size > 512 { 1 } else { 10 } {
             let (key, address) = (rng.bytes(32), rng.next_u64());
             let plaintext = rng.bytes(size);
-            let sealed = sealed(&key, address, &plaintext);
+            let sealed = sealed(&key, 0, address, &plaintext);
             for place in Place::ALL {
                 let mut damaged = sealed.clone();
                 let bytes = damaged.place_mut(place);
@@ -102,7 +103,7 @@ fn opening_needs_both_to_fit() {
     let mut rng = Rng::new(12);
     for size in SIZES {
         let (key, address) = (rng.bytes(32), rng.next_u64());
-        let sealed = sealed(&key, address, &rng.bytes(size));
+        let sealed = sealed(&key, 0, address, &rng.bytes(size));
         let other_tag = rng.bytes(16);
         let cases = [
             (1, address, &sealed.local, &sealed.tag),
@@ -115,7 +116,7 @@ fn opening_needs_both_to_fit() {
         for (side, address, sector, tag) in cases {
             for call in [open, rebuild] {
                 let mut output = vec![FILL; size];
-                let answer = call(&key, address, side, sector, tag, &mut output);
+                let answer = call(&key, 0, address, side, sector, tag, &mut output);
                 assert_eq!(answer, Err(Refusal::NothingFits));
                 assert_eq!(output, vec![FILL; size]);
             }
@@ -127,8 +128,8 @@ fn opening_needs_both_to_fit() {
 fn insist_on_clash(key: &[u8], address: u64, one: &[u8], other: &[u8]) {
     assert_ne!(one, other);
     let size = one.len();
-    let first = sealed(key, address, one);
-    let second = sealed(key, address, other);
+    let first = sealed(key, 0, address, one);
+    let second = sealed(key, 0, address, other);
     assert_eq!(first.tag, second.tag);
     for (a, b) in [(&first, &second), (&second, &first)] {
         let held = Sealed {
@@ -166,7 +167,7 @@ fn clashes_of_steered_pairs() {
         let (key, address) = (rng.bytes(32), rng.next_u64());
         let one = rng.bytes(16 * blocks);
         let other = to_blocks(&rng.bytes(16 * blocks));
-        let steered = steer(to_block(&key[..16]), address, &to_blocks(&one), &other);
+        let steered = steer(to_block(&key[..16]), 0, address, &to_blocks(&one), &other);
         insist_on_clash(&key, address, &one, &to_bytes(&steered.expect("steerable")));
     }
 }
@@ -186,6 +187,7 @@ fn clashes_of_any_pair_under_h_zero() {
 fn second_seal(
     encrypt: impl Fn(&[u8], &[u128]) -> Vec<u128>,
     key: &[u8],
+    volume: u64,
     address: u64,
     plaintext: &[u8],
 ) -> Sealed {
@@ -193,7 +195,8 @@ fn second_seal(
     let start = encrypt(cipher_key, &[0, 1]);
     let (alpha, beta) = (start[0], start[1]);
     let blocks = to_blocks(plaintext);
-    let hashed = [&blocks[..], &[u128::from(address)]].concat();
+    let tweak = (u128::from(volume) << 64) | u128::from(address);
+    let hashed = [&blocks[..], &[tweak]].concat();
     let hash = common::direct_brw(h, &hashed);
     let tag = encrypt(cipher_key, &[product(h, hash) ^ alpha])[0];
     let masks: Vec<u128> = (1..=blocks.len())
@@ -230,8 +233,10 @@ fn second_sealing_agrees() {
     for blocks in (1..20).chain([32, 255, 256]) {
         let (key, address) = (rng.bytes(32), rng.next_u64());
         let plaintext = rng.bytes(16 * blocks);
-        let second = second_seal(encrypt, &key, address, &plaintext);
-        assert_eq!(sealed(&key, address, &plaintext), second);
+        for volume in [0, 1, u64::MAX, rng.next_u64()] {
+            let second = second_seal(encrypt, &key, volume, address, &plaintext);
+            assert_eq!(sealed(&key, volume, address, &plaintext), second);
+        }
     }
 }
 
@@ -243,8 +248,10 @@ fn openssl_sealing_agrees() {
     for size in SIZES {
         let (key, address) = (rng.bytes(32), rng.next_u64());
         let plaintext = rng.bytes(size);
-        let outside = second_seal(encrypt, &key, address, &plaintext);
-        assert_eq!(sealed(&key, address, &plaintext), outside);
+        for volume in [0, 0x0102_0304_0506_0708] {
+            let outside = second_seal(encrypt, &key, volume, address, &plaintext);
+            assert_eq!(sealed(&key, volume, address, &plaintext), outside);
+        }
     }
 }
 
@@ -255,12 +262,12 @@ fn sizes_at_the_bounds() {
         let bytes = vec![1; size];
         let (mut a, mut b, mut tag) = (vec![FILL; size], vec![FILL; size], [FILL; 16]);
         let due = Err(Refusal::SectorSize);
-        assert_eq!(seal(&[0; 32], 0, &bytes, &mut a, &mut b, &mut tag), due);
-        assert_eq!(open(&[0; 32], 0, 0, &bytes, &[0; 16], &mut a), due);
-        assert_eq!(rebuild(&[0; 32], 0, 0, &bytes, &[0; 16], &mut a), due);
+        assert_eq!(seal(&[0; 32], 0, 0, &bytes, &mut a, &mut b, &mut tag), due);
+        assert_eq!(open(&[0; 32], 0, 0, 0, &bytes, &[0; 16], &mut a), due);
+        assert_eq!(rebuild(&[0; 32], 0, 0, 0, &bytes, &[0; 16], &mut a), due);
         assert_eq!(combine(&bytes, &bytes, &mut a), due);
         assert_eq!(
-            judge(&[0; 32], 0, &bytes, &[0; 16], &bytes, &mut a),
+            judge(&[0; 32], 0, 0, &bytes, &[0; 16], &bytes, &mut a),
             Err(Refusal::SectorSize)
         );
         assert!(a.iter().chain(&b).chain(&tag).all(|&byte| byte == FILL));
@@ -295,7 +302,7 @@ fn seal_refusals_in_order() {
     for (key, plaintext, local, remote, tag, due) in cases {
         let mut outputs = [local, remote, tag].map(|len| vec![FILL; len]);
         let [local, remote, tag] = &mut outputs;
-        let answer = seal(&vec![3; key], 5, &vec![4; plaintext], local, remote, tag);
+        let answer = seal(&vec![3; key], 0, 5, &vec![4; plaintext], local, remote, tag);
         assert_eq!(answer_number(&answer), due);
         let untouched = outputs.concat().iter().all(|&byte| byte == FILL);
         assert_eq!(untouched, due != 0);
@@ -323,6 +330,7 @@ fn judge_refusals_in_order() {
         let mut output = vec![FILL; output];
         let answer = judge(
             &vec![3; key],
+            0,
             5,
             &vec![4; local],
             &vec![5; tag],
@@ -357,7 +365,7 @@ fn open_and_rebuild_refusals_in_order() {
         for call in [open, rebuild] {
             let mut output = vec![FILL; output];
             let (key, sector, tag) = (vec![3; key], vec![4; sector], vec![5; tag]);
-            let answer = call(&key, 5, side, &sector, &tag, &mut output);
+            let answer = call(&key, 0, 5, side, &sector, &tag, &mut output);
             assert_eq!(answer_number(&answer), due);
             assert!(output.iter().all(|&byte| byte == FILL));
         }

@@ -53,16 +53,16 @@ fn row_h_pair_clashes() {
             1 => u64::MAX,
             _ => rng.next_u64(),
         };
-        assert_eq!(brw(h, &[h, 0, tweak(address)]), tweak(address));
-        assert_eq!(brw(h, &[h, 1, tweak(address)]), tweak(address));
+        assert_eq!(brw(h, &[h, 0, tweak(0, address)]), tweak(0, address));
+        assert_eq!(brw(h, &[h, 1, tweak(0, address)]), tweak(0, address));
 
         let key = common::key_with_h(&mut rng, h);
-        let one = sealed(&key, address, &to_bytes(&[h, 0]));
-        let other = sealed(&key, address, &to_bytes(&[h, 1]));
+        let one = sealed(&key, 0, address, &to_bytes(&[h, 0]));
+        let other = sealed(&key, 0, address, &to_bytes(&[h, 1]));
         assert_eq!(one.tag, other.tag);
         for (local, remote) in [(&one.local, &other.remote), (&other.local, &one.remote)] {
             let mut output = [0x5a; 32];
-            let answer = judge(&key, address, local, &one.tag, remote, &mut output);
+            let answer = judge(&key, 0, address, local, &one.tag, remote, &mut output);
             assert_eq!(answer, Err(Refusal::Clashing));
             assert_eq!(output, [0x5a; 32]);
         }

@@ -15,8 +15,13 @@ fn print_vectors() -> String {
     String::from_utf8(output.stdout).expect("digits and line feeds")
 }
 
+/// The lines from before the volume's number, which stay in front.
+const OLD_LINES: usize = 473;
+
 /// The call's number and all fields of a line.
-fn parse(line: &str) -> (u8, Vec<Vec<u8>>) {
+type Parsed = (u8, Vec<Vec<u8>>);
+
+fn parse(line: &str) -> Parsed {
     let bytes = hex::decode(line.as_bytes()).expect("digits");
     let (call, mut rest) = bytes.split_first().expect("not empty");
     let mut fields = Vec::new();
@@ -30,8 +35,13 @@ fn parse(line: &str) -> (u8, Vec<Vec<u8>>) {
     (*call, fields)
 }
 
-fn address(field: &[u8]) -> u64 {
-    u64::from_be_bytes(field.try_into().expect("8 bytes"))
+/// The volume's number and the address. Without its bytes the number is 0.
+fn position(field: &[u8]) -> (u64, u64) {
+    let number = |bytes: &[u8]| u64::from_be_bytes(bytes.try_into().expect("8 bytes"));
+    match field.len() {
+        8 => (0, number(field)),
+        _ => (number(&field[..8]), number(&field[8..])),
+    }
 }
 
 /// Runs a line's call; gives the answer and insists on the outputs.
@@ -40,14 +50,16 @@ fn replay(call: u8, fields: &[Vec<u8>]) -> u8 {
         (0, [key, at, plaintext, local, remote, tag, due, after @ ..]) => {
             let mut outputs = [local.clone(), remote.clone(), tag.clone()];
             let [local, remote, tag] = &mut outputs;
-            let answer = seal::seal(key, address(at), plaintext, local, remote, tag);
+            let (volume, address) = position(at);
+            let answer = seal::seal(key, volume, address, plaintext, local, remote, tag);
             assert_eq!([answer_number(&answer)], due[..]);
             assert_eq!(outputs, after);
             due[0]
         }
         (1, [key, at, local, tag, remote, output, due, after]) => {
             let mut output = output.clone();
-            let answer = seal::judge(key, address(at), local, tag, remote, &mut output);
+            let (volume, address) = position(at);
+            let answer = seal::judge(key, volume, address, local, tag, remote, &mut output);
             assert_eq!([answer_number(&answer)], due[..]);
             assert_eq!(output, *after);
             due[0]
@@ -55,7 +67,8 @@ fn replay(call: u8, fields: &[Vec<u8>]) -> u8 {
         (2 | 3, [key, at, side, sector, tag, output, due, after]) => {
             let run = if call == 2 { seal::open } else { seal::rebuild };
             let mut output = output.clone();
-            let answer = run(key, address(at), side[0], sector, tag, &mut output);
+            let (volume, address) = position(at);
+            let answer = run(key, volume, address, side[0], sector, tag, &mut output);
             assert_eq!([answer_number(&answer)], due[..]);
             assert_eq!(output, *after);
             due[0]
@@ -75,18 +88,97 @@ fn replay(call: u8, fields: &[Vec<u8>]) -> u8 {
 fn vectors_replay_and_cover() {
     let text = print_vectors();
     assert_eq!(text, print_vectors(), "the same on every run");
-    assert!(text.len() < 600_000);
+    assert!(text.len() < 850_000);
     assert!(text.ends_with('\n'));
+    assert_eq!(text, text.to_lowercase());
+    let lines: Vec<_> = text.lines().map(parse).collect();
+    let (old, numbered) = lines.split_at(OLD_LINES);
+    let mut answers = answers_of_calls(old);
+    assert_eq!(answers.pop(), Some([0, 2, 3].into()));
+    let due = [
+        [0, 1, 2, 3].into(),
+        [0, 1, 2, 3, 6, 7, 0x81, 0x82, 0x83].into(),
+        [0, 1, 2, 3, 4, 5].into(),
+        [0, 1, 2, 3, 4, 5].into(),
+    ];
+    assert_eq!(answers, due);
+    answers = answers_of_calls(numbered);
+    assert_eq!(answers.pop(), Some([].into()), "combining has no number");
+    assert_eq!(answers, due);
+    println!("{} old and {} numbered", old.len(), numbered.len());
+}
+
+/// The answers that each call gives, after a run of all lines.
+fn answers_of_calls(lines: &[Parsed]) -> Vec<BTreeSet<u8>> {
     let mut answers = vec![BTreeSet::new(); 5];
-    for line in text.lines() {
-        assert_eq!(line, line.to_lowercase());
-        let (call, fields) = parse(line);
-        answers[usize::from(call)].insert(replay(call, &fields));
+    for (call, fields) in lines {
+        answers[usize::from(*call)].insert(replay(*call, fields));
     }
-    assert_eq!(answers[0], [0, 1, 2, 3].into());
-    assert_eq!(answers[1], [0, 1, 2, 3, 6, 7, 0x81, 0x82, 0x83].into());
-    assert_eq!(answers[2], [0, 1, 2, 3, 4, 5].into());
-    assert_eq!(answers[3], [0, 1, 2, 3, 4, 5].into());
-    assert_eq!(answers[4], [0, 2, 3].into());
-    println!("{} vectors", text.lines().count());
+    answers
+}
+
+#[test]
+fn only_the_lines_behind_the_old_ones_say_a_number() {
+    let text = print_vectors();
+    let lines: Vec<_> = text.lines().map(parse).collect();
+    let (old, numbered) = lines.split_at(OLD_LINES);
+    for (call, fields) in old {
+        assert!(*call == 4 || fields[1].len() == 8);
+    }
+    let mut positions = BTreeSet::new();
+    for (_, fields) in numbered {
+        assert_eq!(fields[1].len(), 16);
+        positions.insert(position(&fields[1]));
+    }
+    for volume in [0, 1, 2, 0x0102_0304_0506_0708, 0xff << 56, 0xff, u64::MAX] {
+        assert!(positions.iter().any(|&(number, _)| number == volume));
+    }
+    for volume in [1, 2, 0x0102_0304_0506_0708, 0xff << 56, 0xff, u64::MAX] {
+        assert!(positions.contains(&(volume, 0)));
+        assert!(positions.contains(&(volume, u64::MAX)));
+    }
+    // The field of the plaintext, the local side, or the sector.
+    for (call, field) in [(0, 2), (1, 2), (2, 3), (3, 3)] {
+        for size in [16, 32, 64, 512, 4096] {
+            let has = |line: &Parsed| line.0 == call && line.1[field].len() == size;
+            assert!(numbered.iter().any(has), "{call} {size}");
+        }
+    }
+}
+
+#[test]
+fn numbered_lines_have_their_pairs() {
+    let text = print_vectors();
+    let lines: Vec<_> = text.lines().map(parse).collect();
+    let (old, numbered) = lines.split_at(OLD_LINES);
+    let seals = || {
+        numbered
+            .iter()
+            .filter(|line| line.0 == 0 && line.1[6] == [0])
+    };
+    let (mut alone, mut exchanged) = (0, 0);
+    for (_, one) in seals() {
+        for (_, other) in seals() {
+            if one[0] != other[0] || one[2] != other[2] {
+                continue;
+            }
+            let (a, b) = (position(&one[1]), position(&other[1]));
+            alone += usize::from(a.0 != b.0 && a.1 == b.1);
+            exchanged += usize::from(a != b && a == (b.1, b.0));
+            // Another position gives other bytes in all three places.
+            assert!(a == b || (7..10).all(|field| one[field] != other[field]));
+        }
+    }
+    // Each pair is met from both ends.
+    assert_eq!((alone, exchanged), (8, 8));
+
+    let mut zeros = 0;
+    for (call, fields) in numbered {
+        if fields[1][..8] == [0; 8] {
+            let mut short = fields.clone();
+            short[1].drain(..8);
+            zeros += usize::from(old.contains(&(*call, short)));
+        }
+    }
+    assert_eq!(zeros, 11);
 }

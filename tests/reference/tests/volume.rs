@@ -15,6 +15,8 @@ const FILL: u8 = 0x5a;
 #[derive(Clone, PartialEq, Debug)]
 struct Volume {
     key: Vec<u8>,
+    /// The volume's number.
+    volume: u64,
     size: usize,
     count: usize,
     local: Vec<u8>,
@@ -26,6 +28,7 @@ impl Volume {
     fn random(rng: &mut Rng, size: usize, count: usize) -> Volume {
         Volume {
             key: rng.bytes(32),
+            volume: 0,
             size,
             count,
             local: rng.bytes(size * count),
@@ -44,12 +47,16 @@ impl Volume {
 
     fn blank(&mut self, number: usize) -> Result<(), Refusal> {
         let (local, tag, remote) = (&mut self.local, &mut self.tag, &mut self.remote);
-        blank(&self.key, self.size, self.count, local, tag, remote, number)
+        let (key, volume) = (&self.key, self.volume);
+        blank(
+            key, volume, self.size, self.count, local, tag, remote, number,
+        )
     }
 
     fn first(&mut self, number: usize, plaintext: &[u8]) -> Result<(), Refusal> {
         first_stage(
             &self.key,
+            self.volume,
             self.size,
             self.count,
             &mut self.local,
@@ -63,6 +70,7 @@ impl Volume {
     fn second(&mut self, number: usize, plaintext: &[u8]) -> Result<(), Refusal> {
         second_stage(
             &self.key,
+            self.volume,
             self.size,
             self.count,
             &self.local,
@@ -76,6 +84,7 @@ impl Volume {
     fn third(&mut self, number: usize, plaintext: &[u8]) -> Result<(), Refusal> {
         third_stage(
             &self.key,
+            self.volume,
             self.size,
             self.count,
             &self.local,
@@ -89,6 +98,7 @@ impl Volume {
     fn read(&self, number: usize, output: &mut [u8]) -> Result<Verdict, Refusal> {
         read(
             &self.key,
+            self.volume,
             self.size,
             self.count,
             &self.local,
@@ -108,12 +118,16 @@ impl Volume {
 
     fn mend(&mut self, number: usize) -> Result<Verdict, Refusal> {
         let (local, tag, remote) = (&mut self.local, &mut self.tag, &mut self.remote);
-        mend(&self.key, self.size, self.count, local, tag, remote, number)
+        let (key, volume) = (&self.key, self.volume);
+        mend(
+            key, volume, self.size, self.count, local, tag, remote, number,
+        )
     }
 
     fn survey(&self, list: &mut [u32]) -> Result<Survey, Refusal> {
         survey(
             &self.key,
+            self.volume,
             self.size,
             self.count,
             &self.local,
@@ -156,7 +170,7 @@ fn blank_seals_zeros() {
     for size in [16, 64, 4096] {
         let mut volume = Volume::random(&mut rng, size, 3);
         let mut due = volume.clone();
-        let sealed = sealed(&due.key, 1, &vec![0; size]);
+        let sealed = sealed(&due.key, 0, 1, &vec![0; size]);
         due.place_mut(1, Place::Local)
             .copy_from_slice(&sealed.local);
         due.place_mut(1, Place::Tag).copy_from_slice(&sealed.tag);
@@ -176,7 +190,7 @@ fn stages_write_one_place_each() {
         let mut volume = Volume::blanked(&mut rng, size, 4);
         let zeros = vec![0; size];
         let plaintext = rng.bytes(size);
-        let sealed = sealed(&volume.key, 2, &plaintext);
+        let sealed = sealed(&volume.key, 0, 2, &plaintext);
         let mut due = volume.clone();
 
         // Out of turn, the later stages are refused.
@@ -254,8 +268,8 @@ impl Volume {
     fn clash(&mut self, number: usize) {
         let zeros = vec![0; self.size / 16];
         let (one, other) = blind_pair(to_block(&self.key[..16]), &zeros, 1);
-        let mut held = sealed(&self.key, number as u64, &to_bytes(&one));
-        held.remote = sealed(&self.key, number as u64, &to_bytes(&other)).remote;
+        let mut held = sealed(&self.key, self.volume, number as u64, &to_bytes(&one));
+        held.remote = sealed(&self.key, self.volume, number as u64, &to_bytes(&other)).remote;
         for place in Place::ALL {
             self.place_mut(number, place)
                 .copy_from_slice(held.place(place));
@@ -510,5 +524,137 @@ impl Volume {
         assert_eq!(*self, before);
         assert_eq!(output, vec![FILL; len]);
         answers
+    }
+}
+
+/// Reads, mends and stages are refused and change nothing, and a survey counts
+/// all sectors lost.
+fn insist_on_foreign(volume: &Volume, plaintexts: &[Vec<u8>]) {
+    let mut copy = volume.clone();
+    for (number, plaintext) in plaintexts.iter().enumerate() {
+        let mut output = vec![FILL; volume.size];
+        assert_eq!(copy.read(number, &mut output), Err(Refusal::Lost));
+        assert_eq!(output, vec![FILL; volume.size]);
+        assert_eq!(copy.mend(number), Err(Refusal::Lost));
+        for text in [plaintext, &vec![0; volume.size]] {
+            assert_eq!(copy.first(number, text), Err(Refusal::WrongStage));
+            assert_eq!(copy.second(number, text), Err(Refusal::WrongStage));
+            assert_eq!(copy.third(number, text), Err(Refusal::WrongStage));
+        }
+    }
+    let all: Vec<u32> = (0..volume.count as u32).collect();
+    assert_eq!(copy.surveyed(), ([0, 0, 0, volume.count], all));
+    assert_eq!(copy, *volume);
+}
+
+#[test]
+fn under_another_number_all_is_lost() {
+    let mut rng = Rng::new(44);
+    for (own, other) in [
+        (0, 1),
+        (1, 0),
+        (u64::MAX, 0),
+        (0xff, 0xff << 56),
+        (7, 7 ^ (1 << 63)),
+        (0x0102_0304_0506_0708, 0x0807_0605_0403_0201),
+    ] {
+        for size in [16, 32, 512] {
+            let mut volume = Volume::random(&mut rng, size, 5);
+            volume.volume = own;
+            let plaintexts: Vec<_> = (0..5).map(|_| rng.bytes(size)).collect();
+            // Each sector after one more stage, and the last one damaged.
+            for (number, plaintext) in plaintexts.iter().enumerate() {
+                assert_eq!(volume.blank(number), Ok(()));
+                if number > 0 {
+                    assert_eq!(volume.first(number, plaintext), Ok(()));
+                }
+                if number > 1 {
+                    assert_eq!(volume.second(number, plaintext), Ok(()));
+                }
+                if number > 2 {
+                    assert_eq!(volume.third(number, plaintext), Ok(()));
+                }
+            }
+            volume.place_mut(4, Place::Tag)[5] ^= 1;
+            assert_eq!(volume.surveyed(), ([2, 3, 0, 0], vec![1, 2, 4]));
+            let foreign = Volume {
+                volume: other,
+                ..volume.clone()
+            };
+            insist_on_foreign(&foreign, &plaintexts);
+        }
+    }
+}
+
+/// Two volumes under one key with the same plaintexts share no place.
+#[test]
+fn mirrors_under_two_numbers_share_nothing() {
+    let mut rng = Rng::new(45);
+    let mut one = Volume::random(&mut rng, 48, 3);
+    one.volume = 1;
+    let mut two = Volume {
+        volume: 2,
+        ..one.clone()
+    };
+    for number in 0..3 {
+        let plaintext = rng.bytes(48);
+        for volume in [&mut one, &mut two] {
+            assert_eq!(volume.blank(number), Ok(()));
+            assert_eq!(volume.first(number, &plaintext), Ok(()));
+            assert_eq!(volume.second(number, &plaintext), Ok(()));
+            assert_eq!(volume.third(number, &plaintext), Ok(()));
+            assert_eq!(
+                volume.plain(number),
+                Ok((Verdict::Whole, plaintext.clone()))
+            );
+        }
+        for place in Place::ALL {
+            assert_ne!(one.place_mut(number, place), two.place_mut(number, place));
+        }
+    }
+}
+
+/// All calls under a number write what sealing under it gives.
+#[test]
+fn calls_seal_under_the_number() {
+    let mut rng = Rng::new(46);
+    for own in [1, 0xff, 0xff << 56, u64::MAX] {
+        let mut volume = Volume::random(&mut rng, 32, 2);
+        volume.volume = own;
+        assert_eq!(volume.blank(1), Ok(()));
+        for plaintext in [vec![0; 32], rng.bytes(32)] {
+            assert_eq!(volume.first(1, &plaintext), Ok(()));
+            assert_eq!(volume.second(1, &plaintext), Ok(()));
+            assert_eq!(volume.third(1, &plaintext), Ok(()));
+            let due = sealed(&volume.key, own, 1, &plaintext);
+            for place in Place::ALL {
+                assert_eq!(volume.place_mut(1, place), due.place(place));
+                volume.place_mut(1, place)[0] ^= 0x80;
+                assert_eq!(volume.mend(1), Ok(Verdict::Doubtful(place)));
+                assert_eq!(volume.place_mut(1, place), due.place(place));
+            }
+        }
+    }
+}
+
+/// A number changes no refusal that goes before the verdict.
+#[test]
+fn refusals_in_order_under_a_number() {
+    let mut rng = Rng::new(47);
+    let mut volume = one_of_each(&mut rng);
+    for own in [1, u64::MAX] {
+        volume.volume = own;
+        let with = |change: fn(&mut Volume)| {
+            let mut changed = volume.clone();
+            change(&mut changed);
+            changed
+        };
+        assert_eq!(with(|v| v.key = vec![1; 31]).refusals(9, 31), [1; 6]);
+        assert_eq!(with(|v| v.size = 31).refusals(9, 31), [2; 6]);
+        assert_eq!(with(|v| v.count += 1).refusals(9, 31), [8; 6]);
+        assert_eq!(volume.refusals(4, 31), [9; 6]);
+        let answers = volume.clone().refusals_without_blank_and_mend(0, 31);
+        assert_eq!(answers, [3; 4]);
+        assert_eq!(volume.survey(&mut [0; 3]), Err(Refusal::ShortList));
     }
 }

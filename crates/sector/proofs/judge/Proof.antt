@@ -29,12 +29,12 @@ same-length c = search needs
 returns : tie.Need-returns
 returns c =
     let a = c .before .before .before .before .before .before .before .before .before .before .before .before .args in
-    judge-passes (a .key .now) (a .address) (triple (a .local .now) (a .tag .now) (a .remote .now)) (a .out .now) (c .before .before .before .before .before .before .check-parts .ensures) (c .before .before .before .before .enum-told .given .1) (c .before .before .judge-checked .ensures)
+    judge-passes (a .key .now) (a .volume) (a .address) (triple (a .local .now) (a .tag .now) (a .remote .now)) (a .out .now) (c .before .before .before .before .before .before .check-parts .ensures) (c .before .before .before .before .enum-told .given .1) (c .before .before .judge-checked .ensures)
 
 returns-2 : tie.Need-returns-2
 returns-2 c =
     let a = c .before .before .before .before .before .before .before .before .before .args in
-    judge-refuses (a .key .now) (a .address) (triple (a .local .now) (a .tag .now) (a .remote .now)) (a .out .now) (c .before .before .before .check-parts .ensures) (c .before .checked .given .1)
+    judge-refuses (a .key .now) (a .volume) (a .address) (triple (a .local .now) (a .tag .now) (a .remote .now)) (a .out .now) (c .before .before .before .check-parts .ensures) (c .before .checked .given .1)
 
 pub judge-spec : {M : Type 1} → statement M
 judge-spec =

@@ -33,7 +33,7 @@ judge-in-requires c κs =
     let z = s .pre .1 in
     let prepared = c .before .before .before .before .before .before .before .before .before .before .prepare .ensures in
     let context = c .before .before .before .before .before .before .before .before .context-at .ensures in
-    (ready _ (a .address) prepared context, z, simp length-take (omega arith), simp length-take (omega arith))
+    (ready _ (a .volume) (a .address) prepared context, z, simp length-take (omega arith), simp length-take (omega arith))
 
 same-length : tie.Need-same-length
 same-length c = search needs
@@ -43,7 +43,7 @@ returns c =
     let a = c .before .before .before .before .before .before .before .before .before .before .before .before .before .before .before .before .before .before .before .before .before .before .before .args in
     let prepared = c .before .before .before .before .before .before .before .before .before .before .before .before .before .before .before .prepare .ensures in
     let context = c .before .before .before .before .before .before .before .before .before .before .before .before .before .context-at .ensures in
-    judged-is _ (a .address) prepared context (a .local .now) (a .tag .now) (a .remote .now) (a .out .now) (c .before .before .before .before .judge-in .ensures)
+    judged-is _ (a .volume) (a .address) prepared context (a .local .now) (a .tag .now) (a .remote .now) (a .out .now) (c .before .before .before .before .judge-in .ensures)
 
 pub judge-checked-spec : {M : Type 1} → statement M
 judge-checked-spec =

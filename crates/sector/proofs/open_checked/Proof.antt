@@ -27,7 +27,7 @@ open-in-requires c κs =
     let z = s .pre .1 in
     let prepared = c .before .before .before .before .before .before .before .before .before .prepare .ensures in
     let context = c .before .before .before .before .before .before .before .context-at .ensures in
-    opening-ready _ (s .args .address) prepared context z (simp length-take (omega arith))
+    opening-ready _ (s .args .volume) (s .args .address) prepared context z (simp length-take (omega arith))
 
 same-length : tie.Need-same-length
 same-length c = search needs
@@ -37,7 +37,7 @@ returns c =
     let a = c .before .before .before .before .before .before .before .before .before .before .before .before .before .before .before .before .before .before .before .before .args in
     let prepared = c .before .before .before .before .before .before .before .before .before .before .before .before .before .prepare .ensures in
     let context = c .before .before .before .before .before .before .before .before .before .before .before .context-at .ensures in
-    opened-is _ (a .address) prepared context (a .wanted) (sideNamed (a .side)) (a .x .now) (a .tag .now) (a .out .now) (c .before .before .before .open-in .ensures)
+    opened-is _ (a .volume) (a .address) prepared context (a .wanted) (sideNamed (a .side)) (a .x .now) (a .tag .now) (a .out .now) (c .before .before .before .open-in .ensures)
 
 pub open-checked-spec : {M : Type 1} → statement M
 open-checked-spec =

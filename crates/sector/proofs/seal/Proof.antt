@@ -35,12 +35,12 @@ same-length-3 c = search needs
 returns : tie.Need-returns
 returns c =
     let a = c .before .before .before .before .before .before .before .before .before .before .before .before .before .before .before .before .before .before .args in
-    seal-passes (a .key .now) (a .address) (a .p .now) (triple (a .local .now) (a .tag .now) (a .remote .now)) (c .before .before .before .before .before .before .before .before .before .before .before .before .check-parts .ensures) (c .before .before .before .before .before .before .before .before .before .before .enum-told .given .1) (c .before .before .before .before .before .before .seal-checked .ensures)
+    seal-passes (a .key .now) (a .volume) (a .address) (a .p .now) (triple (a .local .now) (a .tag .now) (a .remote .now)) (c .before .before .before .before .before .before .before .before .before .before .before .before .check-parts .ensures) (c .before .before .before .before .before .before .before .before .before .before .enum-told .given .1) (c .before .before .before .before .before .before .seal-checked .ensures)
 
 returns-2 : tie.Need-returns-2
 returns-2 c =
     let a = c .before .before .before .before .before .before .before .before .before .args in
-    seal-refuses (a .key .now) (a .address) (a .p .now) (triple (a .local .now) (a .tag .now) (a .remote .now)) (c .before .before .before .check-parts .ensures) (c .before .checked .given .1)
+    seal-refuses (a .key .now) (a .volume) (a .address) (a .p .now) (triple (a .local .now) (a .tag .now) (a .remote .now)) (c .before .before .before .check-parts .ensures) (c .before .checked .given .1)
 
 pub seal-spec : {M : Type 1} → statement M
 seal-spec =

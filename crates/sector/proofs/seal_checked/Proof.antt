@@ -18,7 +18,7 @@ seal-in-requires c κs =
     let s = c .before .before .before .before .before .before .before .before .before .before .before .before .before .before .before .before .before .before in
     let prepared = c .before .before .before .before .before .before .before .before .before .before .prepare .ensures in
     let context = c .before .before .before .before .before .before .before .before .context-at .ensures in
-    (ready _ (s .args .address) prepared context, s .pre .1)
+    (ready _ (s .args .volume) (s .args .address) prepared context, s .pre .1)
 
 same-length : tie.Need-same-length
 same-length c = search needs
@@ -34,7 +34,7 @@ returns c =
     let a = c .before .before .before .before .before .before .before .before .before .before .before .before .before .before .before .before .before .before .before .before .before .before .before .before .before .args in
     let prepared = c .before .before .before .before .before .before .before .before .before .before .before .before .before .before .before .before .before .prepare .ensures in
     let context = c .before .before .before .before .before .before .before .before .before .before .before .before .before .before .before .context-at .ensures in
-    c .before .before .before .before .before .before .seal-in .ensures ∙ scheme-sealed _ (a .address) prepared context (a .p .now)
+    c .before .before .before .before .before .before .seal-in .ensures ∙ scheme-sealed _ (a .volume) (a .address) prepared context (a .p .now)
 
 pub seal-checked-spec : {M : Type 1} → statement M
 seal-checked-spec =

@@ -12,7 +12,7 @@ enum-told c = search needs
 survey-checked-requires : tie.Need-survey-checked-requires
 survey-checked-requires c κs =
     let a = c .before .before .before .before .before .before .before .before .before .args in
-    checked-room (a .key .now) (a .local .now) (a .tags .now) (a .remote .now) (a .list .now) _ _ (c .before .before .before .check-survey .ensures) (c .before .enum-told .given .1)
+    checked-room (a .key .now) (a .local .now) (a .tags .now) (a .remote .now) (a .list .now) (a .volume) _ _ (c .before .before .before .check-survey .ensures) (c .before .enum-told .given .1)
 
 enum-known-checked : tie.Need-enum-known-checked
 enum-known-checked c = search needs

@@ -21,7 +21,7 @@ blank-checked-requires c κs =
     let a = c .before .before .before .before .before .before .before .before .before .before .before .args in
     let checks = c .before .before .before .before .before .before .check-sector .ensures in
     let passed = c .before .before .before .before .enum-told .given .1 in
-    blank-within (a .key .now) (a .s) (a .n) (a .i) (a .local .now) (a .tags .now) (a .remote .now) checks passed (prefix-size (a .s) _ (blank-size (a .key .now) (a .s) (a .n) (a .i) (a .local .now) (a .tags .now) (a .remote .now) checks passed))
+    blank-within (a .key .now) (a .volume) (a .s) (a .n) (a .i) (a .local .now) (a .tags .now) (a .remote .now) checks passed (prefix-size (a .s) _ (blank-size (a .key .now) (a .volume) (a .s) (a .n) (a .i) (a .local .now) (a .tags .now) (a .remote .now) checks passed))
 
 enum-known-checked : tie.Need-enum-known-checked
 enum-known-checked c = search needs

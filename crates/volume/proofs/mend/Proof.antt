@@ -11,7 +11,7 @@ enum-told : tie.Need-enum-told
 enum-told c = search needs
 
 mend-checked-requires : tie.Need-mend-checked-requires
-mend-checked-requires c κs = let a = c .before .before .before .before .before .before .before .before .before .before .args in search (call-within (a .key .now) (a .s) (a .n) (a .i) (a .local .now) (a .tags .now) (a .remote .now) mend)
+mend-checked-requires c κs = let a = c .before .before .before .before .before .before .before .before .before .before .args in search (call-within (a .key .now) (a .volume) (a .s) (a .n) (a .i) (a .local .now) (a .tags .now) (a .remote .now) mend)
 
 enum-known-checked : tie.Need-enum-known-checked
 enum-known-checked c = search needs

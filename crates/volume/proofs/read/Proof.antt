@@ -10,7 +10,7 @@ enum-told : tie.Need-enum-told
 enum-told c = search needs
 
 read-checked-requires : tie.Need-read-checked-requires
-read-checked-requires c κs = let a = c .before .before .before .before .before .before .before .before .before .args in search (read-within (a .key .now) (a .s) (a .n) (a .i) (a .local .now) (a .tags .now) (a .remote .now) (a .out .now))
+read-checked-requires c κs = let a = c .before .before .before .before .before .before .before .before .before .args in search (read-within (a .key .now) (a .volume) (a .s) (a .n) (a .i) (a .local .now) (a .tags .now) (a .remote .now) (a .out .now))
 
 enum-known-checked : tie.Need-enum-known-checked
 enum-known-checked c = search needs

@@ -6,7 +6,7 @@ use std::io::{self, Write};
 use reference::answer::Place;
 use reference::collide::blind_pair;
 use reference::field::{to_block, to_blocks, to_bytes};
-use reference::frames::{judge_frame, run};
+use reference::frames::{judge_frame, run, VOLUME};
 use reference::hex;
 use reference::rng::Rng;
 use reference::seal::{sealed, Sealed};
@@ -73,7 +73,7 @@ impl Maker {
     /// A random plaintext under a random key and address, sealed.
     fn sector(&mut self, size: usize) -> (Vec<u8>, u64, Sealed) {
         let (key, address) = (self.rng.bytes(32), self.rng.next_u64());
-        let held = sealed(&key, address, &self.rng.bytes(size));
+        let held = sealed(&key, VOLUME, address, &self.rng.bytes(size));
         (key, address, held)
     }
 
@@ -97,7 +97,7 @@ impl Maker {
         for address in [0, 1, 0xff, 1 << 32, u64::MAX] {
             for plaintext in [vec![0; 16], vec![0xff; 32], self.rng.bytes(48)] {
                 let key = self.rng.bytes(32);
-                let held = sealed(&key, address, &plaintext);
+                let held = sealed(&key, VOLUME, address, &plaintext);
                 self.due(judge_frame(&key, address, &held), b"00");
             }
         }
@@ -123,8 +123,8 @@ impl Maker {
                 let (key, address) = (self.rng.bytes(32), self.rng.next_u64());
                 let plaintext = to_blocks(&self.rng.bytes(size));
                 let (one, other) = blind_pair(to_block(&key[..16]), &plaintext, change);
-                let mut held = sealed(&key, address, &to_bytes(&one));
-                held.remote = sealed(&key, address, &to_bytes(&other)).remote;
+                let mut held = sealed(&key, VOLUME, address, &to_bytes(&one));
+                held.remote = sealed(&key, VOLUME, address, &to_bytes(&other)).remote;
                 self.due(judge_frame(&key, address, &held), b"07");
             }
         }

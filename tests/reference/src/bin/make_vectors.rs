@@ -5,7 +5,8 @@
 //! length in two bytes, high first. The fields are the call's parameters in
 //! order, outputs as they were before; then the answer's number in one byte and
 //! the outputs as they are after. An address is a field of 8 bytes, high first,
-//! and a side a field of one byte.
+//! under the volume's number 0; or a field of 16, which are the number's 8 bytes
+//! and then the address's, both high first. A side is a field of one byte.
 
 use std::io::{self, Write};
 
@@ -17,13 +18,15 @@ use reference::rng::Rng;
 use reference::seal;
 
 const SEED: u64 = 0x2003_0197;
+/// The lines with a number draw for themselves, so that the older ones stay.
+const NUMBERED_SEED: u64 = 0x0005_0002_0064;
 const SMALL_SIZES: [usize; 4] = [16, 32, 48, 64];
 const LARGE: usize = 4096;
 const LOCAL: u8 = 0;
 const REMOTE: u8 = 1;
 
 fn main() -> io::Result<()> {
-    let mut maker = Maker::new();
+    let mut maker = Maker::new(SEED);
     maker.seal_vectors();
     maker.seal_refusals();
     maker.judge_vectors();
@@ -35,7 +38,11 @@ fn main() -> io::Result<()> {
     }
     maker.combine_vectors();
     maker.combine_refusals();
-    io::stdout().write_all(maker.text.as_bytes())
+    let mut numbered = Maker::new(NUMBERED_SEED);
+    numbered.numbered_vectors(&maker.lines);
+    let lines = maker.lines.iter().chain(&numbered.lines);
+    let text: String = lines.map(Line::text).collect();
+    io::stdout().write_all(text.as_bytes())
 }
 
 /// A call that takes one side and the tag.
@@ -45,28 +52,68 @@ enum OneSide {
     Rebuild,
 }
 
-/// Three places under a key and an address.
+/// Where a sector is: its address, and the volume's number if the line says it.
+#[derive(Clone, Copy)]
+struct Position {
+    volume: Option<u64>,
+    address: u64,
+}
+
+impl Position {
+    fn under(volume: u64, address: u64) -> Position {
+        Position {
+            volume: Some(volume),
+            address,
+        }
+    }
+
+    /// The number, which is 0 if the line says nothing.
+    fn volume(self) -> u64 {
+        self.volume.unwrap_or(0)
+    }
+
+    fn field(self) -> Vec<u8> {
+        let address = self.address.to_be_bytes();
+        match self.volume {
+            Some(volume) => [volume.to_be_bytes(), address].concat(),
+            None => address.to_vec(),
+        }
+    }
+}
+
+impl From<u64> for Position {
+    fn from(address: u64) -> Position {
+        Position {
+            volume: None,
+            address,
+        }
+    }
+}
+
+/// Three places under a key and at a position.
 #[derive(Clone)]
 struct Sealed {
     key: Vec<u8>,
-    address: u64,
+    position: Position,
     local: Vec<u8>,
     tag: Vec<u8>,
     remote: Vec<u8>,
 }
 
 impl Sealed {
-    fn new(key: &[u8], address: u64, plaintext: &[u8]) -> Sealed {
+    fn new(key: &[u8], position: impl Into<Position>, plaintext: &[u8]) -> Sealed {
+        let position = position.into();
         let mut sealed = Sealed {
             key: key.to_vec(),
-            address,
+            position,
             local: vec![0; plaintext.len()],
             tag: vec![0; 16],
             remote: vec![0; plaintext.len()],
         };
         seal::seal(
             key,
-            address,
+            position.volume(),
+            position.address,
             plaintext,
             &mut sealed.local,
             &mut sealed.remote,
@@ -85,40 +132,48 @@ impl Sealed {
     }
 }
 
-/// One vector in the making.
+/// One vector.
+#[derive(Clone)]
 struct Line {
-    bytes: Vec<u8>,
+    call: u8,
+    fields: Vec<Vec<u8>>,
 }
 
 impl Line {
     fn new(call: u8) -> Line {
-        Line { bytes: vec![call] }
+        Line {
+            call,
+            fields: Vec::new(),
+        }
     }
 
     fn field(mut self, field: &[u8]) -> Line {
-        let length = u16::try_from(field.len()).expect("fields are short");
-        self.bytes.extend_from_slice(&length.to_be_bytes());
-        self.bytes.extend_from_slice(field);
+        self.fields.push(field.to_vec());
         self
+    }
+
+    fn text(&self) -> String {
+        let mut bytes = vec![self.call];
+        for field in &self.fields {
+            let length = u16::try_from(field.len()).expect("fields are short");
+            bytes.extend_from_slice(&length.to_be_bytes());
+            bytes.extend_from_slice(field);
+        }
+        hex::encode(&bytes) + "\n"
     }
 }
 
 struct Maker {
     rng: Rng,
-    text: String,
+    lines: Vec<Line>,
 }
 
 impl Maker {
-    fn new() -> Maker {
+    fn new(seed: u64) -> Maker {
         Maker {
-            rng: Rng::new(SEED),
-            text: String::new(),
+            rng: Rng::new(seed),
+            lines: Vec::new(),
         }
-    }
-
-    fn push(&mut self, line: Line) {
-        self.text.push_str(&hex::encode(&line.bytes));
-        self.text.push('\n');
     }
 
     fn key(&mut self) -> Vec<u8> {
@@ -138,14 +193,30 @@ impl Maker {
     // The four kinds of line. Each runs the call, insists on the answer that
     // the vector is meant to show, and writes the line. Outputs start random.
 
-    fn seal(&mut self, key: &[u8], address: u64, plaintext: &[u8], outputs: [usize; 3], due: u8) {
+    fn seal(
+        &mut self,
+        key: &[u8],
+        position: impl Into<Position>,
+        plaintext: &[u8],
+        outputs: [usize; 3],
+        due: u8,
+    ) {
+        let position = position.into();
         let before = outputs.map(|len| self.rng.bytes(len));
         let [mut local, mut remote, mut tag] = before.clone();
-        let answer = seal::seal(key, address, plaintext, &mut local, &mut remote, &mut tag);
+        let answer = seal::seal(
+            key,
+            position.volume(),
+            position.address,
+            plaintext,
+            &mut local,
+            &mut remote,
+            &mut tag,
+        );
         assert_eq!(answer_number(&answer), due);
         let line = Line::new(0)
             .field(key)
-            .field(&address.to_be_bytes())
+            .field(&position.field())
             .field(plaintext)
             .field(&before[0])
             .field(&before[1])
@@ -154,7 +225,7 @@ impl Maker {
             .field(&local)
             .field(&remote)
             .field(&tag);
-        self.push(line);
+        self.lines.push(line);
     }
 
     fn judge(&mut self, held: &Sealed, output: usize, due: u8) {
@@ -162,7 +233,8 @@ impl Maker {
         let mut after = before.clone();
         let answer = seal::judge(
             &held.key,
-            held.address,
+            held.position.volume(),
+            held.position.address,
             &held.local,
             &held.tag,
             &held.remote,
@@ -171,17 +243,17 @@ impl Maker {
         assert_eq!(answer_number(&answer), due);
         let line = Line::new(1)
             .field(&held.key)
-            .field(&held.address.to_be_bytes())
+            .field(&held.position.field())
             .field(&held.local)
             .field(&held.tag)
             .field(&held.remote)
             .field(&before)
             .field(&[due])
             .field(&after);
-        self.push(line);
+        self.lines.push(line);
     }
 
-    /// Takes the key, the address and the tag of `held`, and a sector of its
+    /// Takes the key, the position and the tag of `held`, and a sector of its
     /// own.
     fn one_side(
         &mut self,
@@ -198,18 +270,26 @@ impl Maker {
             OneSide::Open => (2, seal::open),
             OneSide::Rebuild => (3, seal::rebuild),
         };
-        let answer = run(&held.key, held.address, side, sector, &held.tag, &mut after);
+        let answer = run(
+            &held.key,
+            held.position.volume(),
+            held.position.address,
+            side,
+            sector,
+            &held.tag,
+            &mut after,
+        );
         assert_eq!(answer_number(&answer), due);
         let line = Line::new(kind)
             .field(&held.key)
-            .field(&held.address.to_be_bytes())
+            .field(&held.position.field())
             .field(&[side])
             .field(sector)
             .field(&held.tag)
             .field(&before)
             .field(&[due])
             .field(&after);
-        self.push(line);
+        self.lines.push(line);
     }
 
     fn combine(&mut self, local: &[u8], remote: &[u8], output: usize, due: u8) {
@@ -223,12 +303,12 @@ impl Maker {
             .field(&before)
             .field(&[due])
             .field(&after);
-        self.push(line);
+        self.lines.push(line);
     }
 
-    fn seal_done(&mut self, key: &[u8], address: u64, plaintext: &[u8]) {
+    fn seal_done(&mut self, key: &[u8], position: impl Into<Position>, plaintext: &[u8]) {
         let size = plaintext.len();
-        self.seal(key, address, plaintext, [size, size, 16], 0);
+        self.seal(key, position, plaintext, [size, size, 16], 0);
     }
 
     fn seal_vectors(&mut self) {
@@ -303,13 +383,7 @@ impl Maker {
     fn judge_vectors(&mut self) {
         for size in [16, 32, 48, 64, 512] {
             let sealed = self.sealed(size);
-            self.judge(&sealed, size, 0);
-            for place in 1..=3 {
-                let damaged = self.scrambled(&sealed, &[place]);
-                self.judge(&damaged, size, 0x80 | place);
-            }
-            let damaged = self.scrambled(&sealed, &[1, 3]);
-            self.judge(&damaged, size, 6);
+            self.judge_damages(&sealed);
         }
         for size in SMALL_SIZES {
             let sealed = self.sealed(size);
@@ -325,6 +399,18 @@ impl Maker {
         let mut damaged = sealed;
         damaged.tag[0] ^= 0x80;
         self.judge(&damaged, LARGE, 0x82);
+    }
+
+    /// Whole, with each place damaged, and with both sides damaged.
+    fn judge_damages(&mut self, sealed: &Sealed) {
+        let size = sealed.local.len();
+        self.judge(sealed, size, 0);
+        for place in 1..=3 {
+            let damaged = self.scrambled(sealed, &[place]);
+            self.judge(&damaged, size, 0x80 | place);
+        }
+        let damaged = self.scrambled(sealed, &[1, 3]);
+        self.judge(&damaged, size, 6);
     }
 
     /// One wrong bit at either end of each place.
@@ -345,7 +431,7 @@ impl Maker {
     fn judge_mixed(&mut self, size: usize) {
         let old = self.sealed(size);
         let plaintext = self.rng.bytes(size);
-        let new = Sealed::new(&old.key, old.address, &plaintext);
+        let new = Sealed::new(&old.key, old.position, &plaintext);
         for place in 1..=3 {
             let mut mixed = old.clone();
             let bytes = place_mut(&mut new.clone(), place).clone();
@@ -359,7 +445,7 @@ impl Maker {
         };
         self.judge(&swapped, size, 6);
         let elsewhere = Sealed {
-            address: old.address ^ 1,
+            position: (old.position.address ^ 1).into(),
             ..old.clone()
         };
         self.judge(&elsewhere, size, 6);
@@ -371,11 +457,12 @@ impl Maker {
     }
 
     /// Judges triples made of two plaintexts with one tag.
-    fn judge_pair(&mut self, key: &[u8], address: u64, one: &[u8], other: &[u8]) {
+    fn judge_pair(&mut self, key: &[u8], position: impl Into<Position>, one: &[u8], other: &[u8]) {
+        let position = position.into();
         let size = one.len();
         let all_tags_alike = key[..16] == [0; 16];
-        let one = Sealed::new(key, address, one);
-        let other = Sealed::new(key, address, other);
+        let one = Sealed::new(key, position, one);
+        let other = Sealed::new(key, position, other);
         assert_eq!(one.tag, other.tag);
         for (first, second) in [(&one, &other), (&other, &one)] {
             let clash = Sealed {
@@ -427,17 +514,29 @@ impl Maker {
         }
         for size in [512, LARGE] {
             let (key, address) = (self.key(), self.address());
-            let (one, other) = self.steered_pair(&key, address, size);
-            let mut clash = Sealed::new(&key, address, &one);
-            clash.remote = Sealed::new(&key, address, &other).remote;
-            self.judge(&clash, size, 7);
+            self.judge_steered_clash(&key, address, size);
         }
     }
 
-    fn steered_pair(&mut self, key: &[u8], address: u64, size: usize) -> (Vec<u8>, Vec<u8>) {
+    fn judge_steered_clash(&mut self, key: &[u8], position: impl Into<Position>, size: usize) {
+        let position = position.into();
+        let (one, other) = self.steered_pair(key, position, size);
+        let mut clash = Sealed::new(key, position, &one);
+        clash.remote = Sealed::new(key, position, &other).remote;
+        self.judge(&clash, size, 7);
+    }
+
+    fn steered_pair(
+        &mut self,
+        key: &[u8],
+        position: impl Into<Position>,
+        size: usize,
+    ) -> (Vec<u8>, Vec<u8>) {
+        let position = position.into();
+        let (volume, address) = (position.volume(), position.address);
         let one = self.rng.bytes(size);
         let other = to_blocks(&self.rng.bytes(size));
-        let steered = steer(h_of(key), address, &to_blocks(&one), &other)
+        let steered = steer(h_of(key), volume, address, &to_blocks(&one), &other)
             .expect("a random block 2 has its say");
         (one, to_bytes(&steered))
     }
@@ -475,7 +574,7 @@ impl Maker {
         ] {
             let wrong = Sealed {
                 key: resized(&sealed.key, key),
-                address: sealed.address,
+                position: sealed.position,
                 local: resized(&sealed.local, local),
                 tag: resized(&sealed.tag, tag),
                 remote: resized(&sealed.remote, remote),
@@ -493,7 +592,8 @@ impl Maker {
         }
         for size in SMALL_SIZES {
             for side in [LOCAL, REMOTE] {
-                self.one_side_misfits(call, size, side);
+                let sealed = self.sealed(size);
+                self.one_side_misfits(call, &sealed, side);
             }
         }
         self.one_side_same_tag(call);
@@ -506,16 +606,19 @@ impl Maker {
     }
 
     /// Refusal 5: the other side, another tag, a wrong bit, another address.
-    fn one_side_misfits(&mut self, call: OneSide, size: usize, side: u8) {
-        let sealed = self.sealed(size);
-        self.one_side(call, &sealed, 1 - side, sealed.side(side), size, 5);
-        let other_tag = self.scrambled(&sealed, &[2]);
+    fn one_side_misfits(&mut self, call: OneSide, sealed: &Sealed, side: u8) {
+        let size = sealed.local.len();
+        self.one_side(call, sealed, 1 - side, sealed.side(side), size, 5);
+        let other_tag = self.scrambled(sealed, &[2]);
         self.one_side(call, &other_tag, side, sealed.side(side), size, 5);
         let mut sector = sealed.side(side).to_vec();
         sector[size - 1] ^= 1;
-        self.one_side(call, &sealed, side, &sector, size, 5);
+        self.one_side(call, sealed, side, &sector, size, 5);
         let elsewhere = Sealed {
-            address: sealed.address ^ (1 << 63),
+            position: Position {
+                address: sealed.position.address ^ (1 << 63),
+                ..sealed.position
+            },
             ..sealed.clone()
         };
         self.one_side(call, &elsewhere, side, sealed.side(side), size, 5);
@@ -617,8 +720,245 @@ impl Maker {
     }
 }
 
+/// Numbers at the ends of the range and with a byte in each place.
+const VOLUMES: [u64; 6] = [
+    1,
+    2,
+    0x0102_0304_0506_0708,
+    0xff00_0000_0000_0000,
+    0x0000_0000_0000_00ff,
+    u64::MAX,
+];
+const NUMBERED_SIZES: [usize; 3] = [16, 32, 64];
+
+/// The lines that say the volume's number.
+impl Maker {
+    fn numbered_vectors(&mut self, old: &[Line]) {
+        self.numbered_seals();
+        self.numbers_alone();
+        self.exchanged();
+        self.under_another_number();
+        self.numbered_verdicts();
+        for call in [OneSide::Open, OneSide::Rebuild] {
+            self.numbered_one_side(call);
+        }
+        self.number_zero(old);
+        self.numbered_refusals();
+    }
+
+    fn position(&mut self) -> Position {
+        Position::under(self.rng.next_u64(), self.rng.next_u64())
+    }
+
+    /// A random plaintext sealed under a random key.
+    fn sealed_at(&mut self, position: Position, size: usize) -> Sealed {
+        let (key, plaintext) = (self.key(), self.rng.bytes(size));
+        Sealed::new(&key, position, &plaintext)
+    }
+
+    fn numbered_seals(&mut self) {
+        let random = [self.rng.next_u64(), self.rng.next_u64()];
+        for (turn, volume) in VOLUMES.into_iter().chain(random).enumerate() {
+            let addresses = [0, u64::MAX, self.rng.next_u64()];
+            for (step, address) in addresses.into_iter().enumerate() {
+                let (key, size) = (self.key(), NUMBERED_SIZES[(turn + step) % 3]);
+                let plaintext = self.rng.bytes(size);
+                self.seal_done(&key, Position::under(volume, address), &plaintext);
+            }
+        }
+        for size in [512, LARGE] {
+            let (key, position) = (self.key(), self.position());
+            let plaintext = self.rng.bytes(size);
+            self.seal_done(&key, position, &plaintext);
+        }
+    }
+
+    /// Seals one plaintext under one key at two positions, and insists that
+    /// all three places differ.
+    fn seal_twice(&mut self, one: Position, other: Position, size: usize) -> [Sealed; 2] {
+        let (key, plaintext) = (self.key(), self.rng.bytes(size));
+        for position in [one, other] {
+            self.seal_done(&key, position, &plaintext);
+        }
+        let sealed = [one, other].map(|position| Sealed::new(&key, position, &plaintext));
+        let [a, b] = &sealed;
+        assert!(a.local != b.local && a.tag != b.tag && a.remote != b.remote);
+        sealed
+    }
+
+    /// Pairs that differ in the number alone.
+    fn numbers_alone(&mut self) {
+        let any = self.rng.next_u64();
+        for (size, one, other) in [
+            (16, 1, 2),
+            (32, 0xff, 0xff << 56),
+            (64, any, any ^ 1),
+            (64, any, any ^ (1 << 63)),
+        ] {
+            let address = self.address();
+            let [one, other] = [one, other].map(|volume| Position::under(volume, address));
+            for sealed in self.seal_twice(one, other, size) {
+                self.judge(&sealed, size, 0);
+            }
+        }
+    }
+
+    /// Pairs in which number and address are exchanged.
+    fn exchanged(&mut self) {
+        let any = self.rng.next_u64();
+        for (size, volume, address) in [
+            (16, 1, 2),
+            (32, 0, u64::MAX),
+            (64, 0x0102_0304_0506_0708, 1),
+            (64, u64::MAX, any),
+        ] {
+            let one = Position::under(volume, address);
+            let other = Position::under(address, volume);
+            let [sealed, _] = self.seal_twice(one, other, size);
+            self.judge(&sealed, size, 0);
+            self.nothing_fits(&sealed, other, LOCAL);
+        }
+    }
+
+    /// A sector where it is not sealed: lost, and neither side opens.
+    fn nothing_fits(&mut self, sealed: &Sealed, position: Position, opened: u8) {
+        let size = sealed.local.len();
+        let elsewhere = Sealed {
+            position,
+            ..sealed.clone()
+        };
+        self.judge(&elsewhere, size, 6);
+        for (call, side) in [(OneSide::Open, opened), (OneSide::Rebuild, 1 - opened)] {
+            self.one_side(call, &elsewhere, side, sealed.side(side), size, 5);
+        }
+    }
+
+    /// Sealed under one number; judged, opened and rebuilt under another.
+    fn under_another_number(&mut self) {
+        let any = self.rng.next_u64();
+        for (opened, size, one, other) in [
+            (LOCAL, 16, 0, 1),
+            (REMOTE, 16, 1, 0),
+            (LOCAL, 32, 1, 2),
+            (REMOTE, 32, 0x0102_0304_0506_0708, 0x0807_0605_0403_0201),
+            (LOCAL, 64, any, any ^ (1 << 63)),
+            (REMOTE, 64, u64::MAX, u64::MAX - 1),
+            (LOCAL, 512, any, any.rotate_left(32)),
+        ] {
+            let address = self.address();
+            let sealed = self.sealed_at(Position::under(one, address), size);
+            self.nothing_fits(&sealed, Position::under(other, address), opened);
+        }
+    }
+
+    /// All verdicts under large numbers.
+    fn numbered_verdicts(&mut self) {
+        for (size, volume) in [
+            (16, u64::MAX),
+            (32, 0xff << 56),
+            (64, 1 << 63),
+            (512, 0xfedc_ba98_7654_3210),
+        ] {
+            let position = Position::under(volume, self.address());
+            let sealed = self.sealed_at(position, size);
+            self.judge_damages(&sealed);
+        }
+        let sealed = self.sealed_at(Position::under(u64::MAX, u64::MAX), LARGE);
+        self.judge(&sealed, LARGE, 0);
+
+        let (key, position) = (self.key(), Position::under(u64::MAX, 0));
+        let (one, other) = blind_pair(h_of(&key), &[0; 2], 1);
+        self.judge_pair(&key, position, &to_bytes(&one), &to_bytes(&other));
+        let (key, position) = (self.key(), Position::under(0xff << 56, self.address()));
+        let (one, other) = self.steered_pair(&key, position, 64);
+        self.judge_pair(&key, position, &one, &other);
+        let (key, position) = (self.key(), self.position());
+        self.judge_steered_clash(&key, position, 512);
+    }
+
+    fn numbered_one_side(&mut self, call: OneSide) {
+        for (turn, size) in [16, 32, 64, 512].into_iter().enumerate() {
+            for side in [LOCAL, REMOTE] {
+                let volume = VOLUMES[(2 * turn + usize::from(side)) % VOLUMES.len()];
+                let position = Position::under(volume, self.address());
+                let sealed = self.sealed_at(position, size);
+                self.one_side(call, &sealed, side, sealed.side(side), size, 0);
+            }
+        }
+        let side = match call {
+            OneSide::Open => REMOTE,
+            OneSide::Rebuild => LOCAL,
+        };
+        let position = self.position();
+        let sealed = self.sealed_at(position, LARGE);
+        self.one_side(call, &sealed, side, sealed.side(side), LARGE, 0);
+        let position = self.position();
+        let sealed = self.sealed_at(position, 32);
+        self.one_side_misfits(call, &sealed, 1 - side);
+    }
+
+    /// Number 0 written out: the first old line of each call with each of the
+    /// answers in which a number has a say.
+    fn number_zero(&mut self, old: &[Line]) {
+        for (call, answers) in [
+            (0, &[0][..]),
+            (1, &[0, 0x81, 0x82, 0x83, 6, 7]),
+            (2, &[0, 5]),
+            (3, &[0, 5]),
+        ] {
+            for &answer in answers {
+                let mut line = old
+                    .iter()
+                    .find(|line| line.call == call && line.fields[6] == [answer])
+                    .expect("the old lines have each answer")
+                    .clone();
+                line.fields[1].splice(0..0, [0; 8]);
+                self.lines.push(line);
+            }
+        }
+    }
+
+    /// A number has no say in refusals 1 to 4 and their order.
+    fn numbered_refusals(&mut self) {
+        let position = self.position();
+        let sealed = self.sealed_at(position, 32);
+        self.seal(&sealed.key[..31], position, &[7; 15], [14, 13, 12], 1);
+        self.seal(&sealed.key, position, &[7; 31], [15, 16, 17], 2);
+        self.seal(&sealed.key, position, &[7; 32], [32, 32, 15], 3);
+        for (key, local, tag, output, due) in [
+            (33, 15, 15, 0, 1),
+            (32, 31, 15, 0, 2),
+            (32, 32, 17, 32, 3),
+            (32, 32, 16, 31, 3),
+        ] {
+            let wrong = Sealed {
+                key: resized(&sealed.key, key),
+                local: resized(&sealed.local, local),
+                tag: resized(&sealed.tag, tag),
+                ..sealed.clone()
+            };
+            self.judge(&wrong, output, due);
+        }
+        for call in [OneSide::Open, OneSide::Rebuild] {
+            for (key, sector, output, due) in [
+                (0, 15, 0, 1),
+                (32, 31, 0, 2),
+                (32, 32, 16, 3),
+                (32, 32, 32, 4),
+            ] {
+                let wrong = Sealed {
+                    key: resized(&sealed.key, key),
+                    ..sealed.clone()
+                };
+                let bytes = resized(&sealed.local, sector);
+                self.one_side(call, &wrong, 2, &bytes, output, due);
+            }
+        }
+    }
+}
+
 type OneSideCall =
-    fn(&[u8], u64, u8, &[u8], &[u8], &mut [u8]) -> Result<(), reference::answer::Refusal>;
+    fn(&[u8], u64, u64, u8, &[u8], &[u8], &mut [u8]) -> Result<(), reference::answer::Refusal>;
 
 fn place_mut(sealed: &mut Sealed, place: u8) -> &mut Vec<u8> {
     match place {
