@@ -2,9 +2,9 @@
  * mirror.h: the double ciphertext mirror. For C99 and C++11, and later ones; the library is libmirror.a, for x86-64 Linux.
  * SPDX-License-Identifier: Apache-2.0
  *
- * A SECTOR is kept in three places: a local sector, a tag and a remote sector. Sealing makes all three from a plaintext, under a key and
- * an address. Any two of them give the plaintext back, so damage to one place is found and can be mended, unless another plaintext happens
- * to fit two places as well (clashing). A plaintext FITS a place if sealing it gives the bytes that are there.
+ * A SECTOR is kept in three places: a local sector, a tag and a remote sector. Sealing makes all three from a plaintext, under a key, a
+ * volume's number and an address. Any two of them give the plaintext back, so damage to one place is found and can be mended, unless
+ * another plaintext happens to fit two places as well (clashing). A plaintext FITS a place if sealing it gives the bytes that are there.
  *
  *   key        32 bytes: the hash key h (16 bytes), then the AES-128 key K (16 bytes). Choosing both is the caller's part; see SECRETS.
  *   sector     s bytes, s a multiple of 16 from 16 to 4,096; the plaintext, the local and the remote sector all have s bytes
@@ -12,6 +12,9 @@
  *   address    any 64-bit number; a sector is judged at the address that it was sealed at
  *   volume     n sectors, n from 1 to 65,536, in three images: local (n*s bytes), tags (n*16 bytes), remote (n*s bytes).
  *              Sector number i, from 0, has address i: its parts begin at i*s, i*16 and i*s.
+ *              A volume has a number too, `volume` in the calls: any 64-bit number, one for each volume under a key, and never used again
+ *              for another volume under that key; 0 for volumes made by releases before 0.3.0. It is not secret. The library does not
+ *              store it: keep it beside the volume, as s and n. A sector is judged under the number that it was sealed under.
  *
  * BUILD AND LINK. In the library's source tree `scripts/install PREFIX` puts mirror.h into PREFIX/include, libmirror.a into PREFIX/lib and
  * mirror.pc into PREFIX/lib/pkgconfig. A program is then built by
@@ -32,7 +35,7 @@
  *   - `list` is aligned for uint32_t and `counts` for uint64_t; bytes need no alignment;
  *   - a buffer that the call may write (one without const) overlaps no other buffer of the call, not even in part. What is proved of a
  *     call says nothing about overlaps. Buffers that are only read may overlap each other.
- * Any lengths and numbers are safe otherwise: wrong ones are refused.
+ * Any lengths and numbers are safe otherwise: wrong ones are refused. Every address and every volume's number is accepted.
  *
  * MEMORY AND THREADS. A call keeps no state between calls, allocates nothing and does no input or output. It needs memcpy and memset from
  * the C library and nothing else. mirror_survey uses less than 48 KiB of stack (MIRROR_STACK_BYTES), every other call less than 20 KiB
@@ -42,9 +45,10 @@
  * SECRETS. What an attacker can guess, forge or measure is no claim of this library; SECURITY.md in the source tree says more.
  *   - Local and remote sector together give the plaintext WITHOUT the key (mirror_combine): whoever may read both needs no key.
  *   - h must not be zero. All plaintexts would have one tag, and a sector with a damaged side would clash. No call checks this.
- *   - One key belongs to one volume. Key, address and plaintext alone decide all bytes: two volumes under one key have equal bytes for
- *     equal plaintexts at equal addresses, and a sector of one is accepted in the other, at the same number. Also in one volume a sector's
- *     old bytes, put back into all three places, are accepted.
+ *   - One key and number belong to one volume: give each volume under a key a number of its own, and never use it again for another
+ *     volume under that key. Key, number, address and plaintext alone decide all bytes: two volumes under one key and one number have equal
+ *     bytes for equal plaintexts at equal addresses, and a sector of one is accepted in the other, at the same address. Also in one volume
+ *     a sector's old bytes, put back into all three places, are accepted. The number is not secret, and no key: see SECURITY.md.
  *   - Timing is not constant: AES looks up a table by secret bytes, comparisons end at the first difference, and a damaged sector takes
  *     longer than a whole one.
  *   - A call does not wipe its scratch memory on the stack: what it made from key and plaintext stays there.
@@ -63,13 +67,14 @@
  *   - The images are private memory. A call may store a tag byte by byte: in a shared mapping of the medium (mmap with MAP_SHARED) a kill
  *     or a power cut between two bytes leaves a mixture, and a second stage cut so loses the sector.
  *
- * EXAMPLE. One sector, at address 7. For a volume see struct mirror_volume below, and examples/ in the source tree.
+ * EXAMPLE. One sector, of volume 1, at address 7. For a volume see struct mirror_volume below, and examples/ in the source tree.
  *
  *   uint8_t key[MIRROR_KEY_BYTES], plain[512], local[512], tag[MIRROR_TAG_BYTES], remote[512], out[512];
  *   ...
- *   if (mirror_seal(key, sizeof key, 7, plain, sizeof plain, local, sizeof local, tag, sizeof tag, remote, sizeof remote) != MIRROR_DONE)
+ *   if (mirror_seal(key, sizeof key, 1, 7, plain, sizeof plain, local, sizeof local, tag, sizeof tag, remote, sizeof remote) !=
+ *       MIRROR_DONE)
  *       return -1;
- *   switch (mirror_judge(key, sizeof key, 7, local, sizeof local, tag, sizeof tag, remote, sizeof remote, out, sizeof out)) {
+ *   switch (mirror_judge(key, sizeof key, 1, 7, local, sizeof local, tag, sizeof tag, remote, sizeof remote, out, sizeof out)) {
  *   case MIRROR_WHOLE:           return 0;
  *   case MIRROR_DOUBTFUL_LOCAL:
  *   case MIRROR_DOUBTFUL_TAG:
@@ -84,8 +89,8 @@
 #include <stdint.h>
 
 /* The release that this header is of: a number, major*1000000 + minor*1000 + patch, which #if can compare, and the same as a text. */
-#define MIRROR_VERSION 2000
-#define MIRROR_VERSION_TEXT "0.2.0"
+#define MIRROR_VERSION 3000
+#define MIRROR_VERSION_TEXT "0.3.0"
 
 /* Sizes in bytes, and the sectors of the largest volume. */
 #define MIRROR_KEY_BYTES 32
@@ -114,8 +119,8 @@
                                            16 for a tag */
 #define MIRROR_REFUSED_UNKNOWN_SIDE 4u  /* the side is neither MIRROR_SIDE_LOCAL nor MIRROR_SIDE_REMOTE: name one of them */
 #define MIRROR_REFUSED_NONE_FITS 5u     /* no plaintext fits this side and this tag: try the other side, or judge if both are there */
-#define MIRROR_REFUSED_LOST 6u          /* no plaintext fits two places: check the key on other sectors; if it is right, blank, and write
-                                           from a backup */
+#define MIRROR_REFUSED_LOST 6u          /* no plaintext fits two places: check the key and the volume's number on other sectors; if they
+                                           are right, blank, and write from a backup */
 #define MIRROR_REFUSED_CLASHING 7u      /* more than one plaintext fits two places: if a write was under way, go on with its second and
                                            third stage (if the second refuses 10, see "After a cut in a write" below); otherwise open
                                            each side, combine both, choose, blank, and write the choice */
@@ -149,22 +154,24 @@ extern "C" {
 
 /*
  * The MIRROR_VERSION of the library that is linked. A program that was compiled with the header of one release and linked with the library
- * of another may call functions with arguments in another order, and nothing else tells it. So look once, before the first call:
+ * of another may call functions with other arguments, or in another order, and nothing else tells it. So look once, before the first call:
  *   if (mirror_version() != MIRROR_VERSION) return -1;
  */
 uint32_t mirror_version(void);
 
-/* ---- one sector. Every call takes its places in the order local, tag, remote. */
+/* ---- one sector. Every call takes its places in the order local, tag, remote. The volume's number and the address together are what a
+ * sector is sealed under. Both are 64-bit numbers: exchanging the two is not noticed where every call does it, and gives lost where one
+ * call does (5 from mirror_open and mirror_rebuild). */
 
 /*
- * Seals the plaintext under key and address: writes local, tag and remote.
+ * Seals the plaintext under key, volume's number and address: writes local, tag and remote.
  *   1 key_len is not 32
  *   2 plain_len is not a sector size
  *   3 local_len or remote_len is not plain_len, or tag_len is not 16
  *   MIRROR_DONE
  */
-MIRROR_ANSWER mirror_seal(const uint8_t *key, size_t key_len, uint64_t address, const uint8_t *plain, size_t plain_len, uint8_t *local,
-                          size_t local_len, uint8_t *tag, size_t tag_len, uint8_t *remote, size_t remote_len);
+MIRROR_ANSWER mirror_seal(const uint8_t *key, size_t key_len, uint64_t volume, uint64_t address, const uint8_t *plain, size_t plain_len,
+                          uint8_t *local, size_t local_len, uint8_t *tag, size_t tag_len, uint8_t *remote, size_t remote_len);
 
 /*
  * Judges a sector and writes its plaintext to out. It mends nothing: after MIRROR_DOUBTFUL_... seal the plaintext again, and write the
@@ -176,8 +183,8 @@ MIRROR_ANSWER mirror_seal(const uint8_t *key, size_t key_len, uint64_t address, 
  *   7 clashing
  *   MIRROR_WHOLE, MIRROR_DOUBTFUL_LOCAL, MIRROR_DOUBTFUL_TAG, MIRROR_DOUBTFUL_REMOTE: out has the plaintext
  */
-MIRROR_ANSWER mirror_judge(const uint8_t *key, size_t key_len, uint64_t address, const uint8_t *local, size_t local_len, const uint8_t *tag,
-                           size_t tag_len, const uint8_t *remote, size_t remote_len, uint8_t *out, size_t out_len);
+MIRROR_ANSWER mirror_judge(const uint8_t *key, size_t key_len, uint64_t volume, uint64_t address, const uint8_t *local, size_t local_len,
+                           const uint8_t *tag, size_t tag_len, const uint8_t *remote, size_t remote_len, uint8_t *out, size_t out_len);
 
 /*
  * Opens one side with the tag, where the other side is not at hand: writes to out the one plaintext that fits both.
@@ -188,8 +195,8 @@ MIRROR_ANSWER mirror_judge(const uint8_t *key, size_t key_len, uint64_t address,
  *   5 no plaintext fits both
  *   MIRROR_DONE
  */
-MIRROR_ANSWER mirror_open(const uint8_t *key, size_t key_len, uint64_t address, uint32_t side, const uint8_t *sector, size_t sector_len,
-                          const uint8_t *tag, size_t tag_len, uint8_t *out, size_t out_len);
+MIRROR_ANSWER mirror_open(const uint8_t *key, size_t key_len, uint64_t volume, uint64_t address, uint32_t side, const uint8_t *sector,
+                          size_t sector_len, const uint8_t *tag, size_t tag_len, uint8_t *out, size_t out_len);
 
 /*
  * Rebuilds the other side: `side` says which one `sector` is, and out is given the sector of the side that is missing. Refuses as
@@ -197,8 +204,8 @@ MIRROR_ANSWER mirror_open(const uint8_t *key, size_t key_len, uint64_t address, 
  *   1, 2, 3, 4, 5 as mirror_open
  *   MIRROR_DONE
  */
-MIRROR_ANSWER mirror_rebuild(const uint8_t *key, size_t key_len, uint64_t address, uint32_t side, const uint8_t *sector, size_t sector_len,
-                             const uint8_t *tag, size_t tag_len, uint8_t *out, size_t out_len);
+MIRROR_ANSWER mirror_rebuild(const uint8_t *key, size_t key_len, uint64_t volume, uint64_t address, uint32_t side, const uint8_t *sector,
+                             size_t sector_len, const uint8_t *tag, size_t tag_len, uint8_t *out, size_t out_len);
 
 /*
  * Writes local ^ remote to out, without a key. It is the plaintext if both sides are as sealed; nothing is checked of that.
@@ -209,8 +216,8 @@ MIRROR_ANSWER mirror_rebuild(const uint8_t *key, size_t key_len, uint64_t addres
 MIRROR_ANSWER mirror_combine(const uint8_t *local, size_t local_len, const uint8_t *remote, size_t remote_len, uint8_t *out,
                              size_t out_len);
 
-/* ---- a volume. All images are lent to every call, whole; a call may write only those that it takes without const. struct mirror_volume
- * below saves the repeated arguments. */
+/* ---- a volume. `volume` is its number, and `number` that of a sector. All images are lent to every call, whole; a call may write only
+ * those that it takes without const. struct mirror_volume below saves the repeated arguments. */
 
 /*
  * Blanks one sector: seals a plaintext of s zeros into its part of all three images, whatever was there. Each sector of a new volume is
@@ -221,8 +228,8 @@ MIRROR_ANSWER mirror_combine(const uint8_t *local, size_t local_len, const uint8
  *   9 number is not below n
  *   MIRROR_DONE
  */
-MIRROR_ANSWER mirror_blank(const uint8_t *key, size_t key_len, size_t s, size_t n, size_t number, uint8_t *local, size_t local_len,
-                           uint8_t *tags, size_t tags_len, uint8_t *remote, size_t remote_len);
+MIRROR_ANSWER mirror_blank(const uint8_t *key, size_t key_len, uint64_t volume, size_t s, size_t n, size_t number, uint8_t *local,
+                           size_t local_len, uint8_t *tags, size_t tags_len, uint8_t *remote, size_t remote_len);
 
 /*
  * A write is three calls with the same plaintext, in this order, each finished (see POWER CUTS) before the next begins. Each writes only
@@ -234,7 +241,8 @@ MIRROR_ANSWER mirror_blank(const uint8_t *key, size_t key_len, size_t s, size_t 
  *
  * After a cut in a write: read the sector. If it is doubtful, mend it, and see by the plaintext whether to write again. If it clashes, make
  * the second and the third stage with the same plaintext. If the second refuses 10, the first was cut, and the old plaintext still fits tag
- * and remote sector: mirror_rebuild from the remote side (the address is the sector's number) gives the local sector that belongs there.
+ * and remote sector: mirror_rebuild from the remote side (under the volume's number; the address is the sector's number) gives the local
+ * sector that belongs there.
  *
  * First stage: writes the local sector. 10 if the sector is not whole: go by the answer that a read of it gives.
  * Second stage: writes the tag. 10 if the plaintext does not fit the local sector.
@@ -245,15 +253,15 @@ MIRROR_ANSWER mirror_blank(const uint8_t *key, size_t key_len, size_t s, size_t 
  *   10 the stage is not due
  *   MIRROR_DONE
  */
-MIRROR_ANSWER mirror_first_stage(const uint8_t *key, size_t key_len, size_t s, size_t n, size_t number, const uint8_t *plain,
-                                 size_t plain_len, uint8_t *local, size_t local_len, const uint8_t *tags, size_t tags_len,
-                                 const uint8_t *remote, size_t remote_len);
-MIRROR_ANSWER mirror_second_stage(const uint8_t *key, size_t key_len, size_t s, size_t n, size_t number, const uint8_t *plain,
-                                  size_t plain_len, const uint8_t *local, size_t local_len, uint8_t *tags, size_t tags_len,
-                                  const uint8_t *remote, size_t remote_len);
-MIRROR_ANSWER mirror_third_stage(const uint8_t *key, size_t key_len, size_t s, size_t n, size_t number, const uint8_t *plain,
-                                 size_t plain_len, const uint8_t *local, size_t local_len, const uint8_t *tags, size_t tags_len,
-                                 uint8_t *remote, size_t remote_len);
+MIRROR_ANSWER mirror_first_stage(const uint8_t *key, size_t key_len, uint64_t volume, size_t s, size_t n, size_t number,
+                                 const uint8_t *plain, size_t plain_len, uint8_t *local, size_t local_len, const uint8_t *tags,
+                                 size_t tags_len, const uint8_t *remote, size_t remote_len);
+MIRROR_ANSWER mirror_second_stage(const uint8_t *key, size_t key_len, uint64_t volume, size_t s, size_t n, size_t number,
+                                  const uint8_t *plain, size_t plain_len, const uint8_t *local, size_t local_len, uint8_t *tags,
+                                  size_t tags_len, const uint8_t *remote, size_t remote_len);
+MIRROR_ANSWER mirror_third_stage(const uint8_t *key, size_t key_len, uint64_t volume, size_t s, size_t n, size_t number,
+                                 const uint8_t *plain, size_t plain_len, const uint8_t *local, size_t local_len, const uint8_t *tags,
+                                 size_t tags_len, uint8_t *remote, size_t remote_len);
 
 /*
  * Reads one sector: judges it and writes its plaintext to out. It mends nothing: after MIRROR_DOUBTFUL_... call mirror_mend soon, for
@@ -264,8 +272,9 @@ MIRROR_ANSWER mirror_third_stage(const uint8_t *key, size_t key_len, size_t s, s
  *   7 clashing
  *   MIRROR_WHOLE, MIRROR_DOUBTFUL_LOCAL, MIRROR_DOUBTFUL_TAG, MIRROR_DOUBTFUL_REMOTE: out has the plaintext
  */
-MIRROR_ANSWER mirror_read(const uint8_t *key, size_t key_len, size_t s, size_t n, size_t number, const uint8_t *local, size_t local_len,
-                          const uint8_t *tags, size_t tags_len, const uint8_t *remote, size_t remote_len, uint8_t *out, size_t out_len);
+MIRROR_ANSWER mirror_read(const uint8_t *key, size_t key_len, uint64_t volume, size_t s, size_t n, size_t number, const uint8_t *local,
+                          size_t local_len, const uint8_t *tags, size_t tags_len, const uint8_t *remote, size_t remote_len, uint8_t *out,
+                          size_t out_len);
 
 /*
  * Mends one sector: writes the doubtful place anew, as the one plaintext seals, and nothing if the sector is whole. The answer is what it
@@ -277,8 +286,8 @@ MIRROR_ANSWER mirror_read(const uint8_t *key, size_t key_len, size_t s, size_t n
  *   MIRROR_WHOLE: nothing is written
  *   MIRROR_DOUBTFUL_LOCAL, MIRROR_DOUBTFUL_TAG, MIRROR_DOUBTFUL_REMOTE: that place is written
  */
-MIRROR_ANSWER mirror_mend(const uint8_t *key, size_t key_len, size_t s, size_t n, size_t number, uint8_t *local, size_t local_len,
-                          uint8_t *tags, size_t tags_len, uint8_t *remote, size_t remote_len);
+MIRROR_ANSWER mirror_mend(const uint8_t *key, size_t key_len, uint64_t volume, size_t s, size_t n, size_t number, uint8_t *local,
+                          size_t local_len, uint8_t *tags, size_t tags_len, uint8_t *remote, size_t remote_len);
 
 /*
  * Surveys a volume: judges every sector and writes the five counts. The number of each sector that is not whole stands once at the front
@@ -286,16 +295,17 @@ MIRROR_ANSWER mirror_mend(const uint8_t *key, size_t key_len, size_t s, size_t n
  *
  * The list is in repair order: the first counts[MIRROR_COUNT_LOST] entries are the lost sectors, the next counts[MIRROR_COUNT_CLASHING] the
  * clashing ones, the next counts[MIRROR_COUNT_DOUBTFUL] the doubtful ones; within a kind the numbers rise. So no read is needed to tell the
- * kinds, and the list is one value for a key and a volume. The clashing ones begin at list + counts[MIRROR_COUNT_LOST], the doubtful ones
- * counts[MIRROR_COUNT_CLASHING] entries behind that.
+ * kinds, and the list is one value for a key, a volume's number and a volume. The clashing ones begin at list + counts[MIRROR_COUNT_LOST],
+ * the doubtful ones counts[MIRROR_COUNT_CLASHING] entries behind that.
  *   1, 2, 8 as mirror_blank
  *   11 list_len is below n
  *   MIRROR_DONE: go by MIRROR_REFUSED_LOST and MIRROR_REFUSED_CLASHING above for the lost and the clashing sectors, and mend the doubtful.
- *       If counts[MIRROR_COUNT_WHOLE] is 0 the key may be wrong: look for the right one before anything is blanked.
+ *       If counts[MIRROR_COUNT_WHOLE] is 0 the key or the volume's number may be wrong: look for the right ones before anything is
+ *       blanked.
  */
-MIRROR_ANSWER mirror_survey(const uint8_t *key, size_t key_len, size_t s, size_t n, const uint8_t *local, size_t local_len,
-                            const uint8_t *tags, size_t tags_len, const uint8_t *remote, size_t remote_len, uint32_t *list,
-                            size_t list_len, uint64_t counts[MIRROR_COUNTS_LENGTH]);
+MIRROR_ANSWER mirror_survey(const uint8_t *key, size_t key_len, uint64_t volume, size_t s, size_t n, const uint8_t *local,
+                            size_t local_len, const uint8_t *tags, size_t tags_len, const uint8_t *remote, size_t remote_len,
+                            uint32_t *list, size_t list_len, uint64_t counts[MIRROR_COUNTS_LENGTH]);
 
 /* ---- written in this header, over the calls above */
 
@@ -321,7 +331,8 @@ static inline const char *mirror_text(uint32_t answer)
         return "no plaintext fits this side and this tag: try the other side, or judge the sector if both are there";
     case MIRROR_REFUSED_LOST:
         return "lost, no plaintext fits two places: "
-               "see by other sectors whether the key is right; if it is, blank the sector and write it from a backup";
+               "see by other sectors whether the key and the volume's number are right; "
+               "if they are, blank the sector and write it from a backup";
     case MIRROR_REFUSED_CLASHING:
         return "clashing, more than one plaintext fits two places: "
                "if a write was under way, go on with its second and third stage "
@@ -352,21 +363,25 @@ static inline const char *mirror_text(uint32_t answer)
  * with the same answers, and the same is asked of the caller. Nothing is checked when the struct is filled: each call checks it whole.
  * It has the pointers alone, so key and images stay where they are as long as it is used. Lengths are in bytes.
  *
- *   C99:    struct mirror_volume v = {.key = key, .key_len = sizeof key, .s = 512, .n = 4, .local = local, .local_len = sizeof local,
- *                                     .tags = tags, .tags_len = sizeof tags, .remote = remote, .remote_len = sizeof remote};
- *   C++11:  mirror_volume v = {}; v.key = key; v.key_len = sizeof key; ...
+ *   C99:    struct mirror_volume v = {.key = key, .key_len = sizeof key, .volume = 1, .s = 512, .n = 4,
+ *                                     .local = local, .local_len = sizeof local, .tags = tags, .tags_len = sizeof tags,
+ *                                     .remote = remote, .remote_len = sizeof remote};
+ *   C++11:  mirror_volume v = {}; v.key = key; v.key_len = sizeof key; v.volume = 1; ...
  *   both:   uint32_t answer = mirror_volume_blank(&v, 2);
  *           if (answer != MIRROR_DONE) fprintf(stderr, "sector 2: %s\n", mirror_text(answer));
  *
- * Name the fields, as here, since a later release may have more of them, in other places. A field that is left out is 0, and a length, s
- * or n of 0 is refused. The images are without const, since most calls
- * write; for images that may only be read call mirror_read and mirror_survey themselves.
+ * Name the fields, as here, since a later release may have more of them, in other places. A field that is left out is 0: a length, s or n
+ * of 0 is refused, and a `volume` of 0 is the number 0. So a program that named its fields for release 0.2.0 compiles as it is, and keeps
+ * its volume, whose number is 0. A new volume under a key that another volume has needs a number of its own.
+ *
+ * The images are without const, since most calls write; for images that may only be read call mirror_read and mirror_survey themselves.
  */
 struct mirror_volume {
     const uint8_t *key;
     size_t key_len;
-    size_t s; /* the bytes of a sector */
-    size_t n; /* the sectors */
+    uint64_t volume; /* the volume's number */
+    size_t s;        /* the bytes of a sector */
+    size_t n;        /* the sectors */
     uint8_t *local;
     size_t local_len;
     uint8_t *tags;
@@ -378,49 +393,51 @@ struct mirror_volume {
 /* mirror_blank: a new sector of zeros. */
 static inline MIRROR_ANSWER mirror_volume_blank(const struct mirror_volume *v, size_t number)
 {
-    return mirror_blank(v->key, v->key_len, v->s, v->n, number, v->local, v->local_len, v->tags, v->tags_len, v->remote, v->remote_len);
+    return mirror_blank(v->key, v->key_len, v->volume, v->s, v->n, number, v->local, v->local_len, v->tags, v->tags_len, v->remote,
+                        v->remote_len);
 }
 
 /* mirror_first_stage: writes the local sector. Write it out and flush it before the second stage. */
 static inline MIRROR_ANSWER mirror_volume_first_stage(const struct mirror_volume *v, size_t number, const uint8_t *plain, size_t plain_len)
 {
-    return mirror_first_stage(v->key, v->key_len, v->s, v->n, number, plain, plain_len, v->local, v->local_len, v->tags, v->tags_len,
-                              v->remote, v->remote_len);
+    return mirror_first_stage(v->key, v->key_len, v->volume, v->s, v->n, number, plain, plain_len, v->local, v->local_len, v->tags,
+                              v->tags_len, v->remote, v->remote_len);
 }
 
 /* mirror_second_stage: writes the tag. Write it out and flush it before the third stage. */
 static inline MIRROR_ANSWER mirror_volume_second_stage(const struct mirror_volume *v, size_t number, const uint8_t *plain, size_t plain_len)
 {
-    return mirror_second_stage(v->key, v->key_len, v->s, v->n, number, plain, plain_len, v->local, v->local_len, v->tags, v->tags_len,
-                               v->remote, v->remote_len);
+    return mirror_second_stage(v->key, v->key_len, v->volume, v->s, v->n, number, plain, plain_len, v->local, v->local_len, v->tags,
+                               v->tags_len, v->remote, v->remote_len);
 }
 
 /* mirror_third_stage: writes the remote sector. Write it out and flush it before the next call. */
 static inline MIRROR_ANSWER mirror_volume_third_stage(const struct mirror_volume *v, size_t number, const uint8_t *plain, size_t plain_len)
 {
-    return mirror_third_stage(v->key, v->key_len, v->s, v->n, number, plain, plain_len, v->local, v->local_len, v->tags, v->tags_len,
-                              v->remote, v->remote_len);
+    return mirror_third_stage(v->key, v->key_len, v->volume, v->s, v->n, number, plain, plain_len, v->local, v->local_len, v->tags,
+                              v->tags_len, v->remote, v->remote_len);
 }
 
 /* mirror_read: the plaintext goes to out, which no image overlaps. */
 static inline MIRROR_ANSWER mirror_volume_read(const struct mirror_volume *v, size_t number, uint8_t *out, size_t out_len)
 {
-    return mirror_read(v->key, v->key_len, v->s, v->n, number, v->local, v->local_len, v->tags, v->tags_len, v->remote, v->remote_len, out,
-                       out_len);
+    return mirror_read(v->key, v->key_len, v->volume, v->s, v->n, number, v->local, v->local_len, v->tags, v->tags_len, v->remote,
+                       v->remote_len, out, out_len);
 }
 
 /* mirror_mend: writes the place that the answer names. Write it out and flush it. */
 static inline MIRROR_ANSWER mirror_volume_mend(const struct mirror_volume *v, size_t number)
 {
-    return mirror_mend(v->key, v->key_len, v->s, v->n, number, v->local, v->local_len, v->tags, v->tags_len, v->remote, v->remote_len);
+    return mirror_mend(v->key, v->key_len, v->volume, v->s, v->n, number, v->local, v->local_len, v->tags, v->tags_len, v->remote,
+                       v->remote_len);
 }
 
 /* mirror_survey: the numbers of the lost, then the clashing, then the doubtful sectors go to list, which has n entries or more. */
 static inline MIRROR_ANSWER mirror_volume_survey(const struct mirror_volume *v, uint32_t *list, size_t list_len,
                                                  uint64_t counts[MIRROR_COUNTS_LENGTH])
 {
-    return mirror_survey(v->key, v->key_len, v->s, v->n, v->local, v->local_len, v->tags, v->tags_len, v->remote, v->remote_len, list,
-                         list_len, counts);
+    return mirror_survey(v->key, v->key_len, v->volume, v->s, v->n, v->local, v->local_len, v->tags, v->tags_len, v->remote,
+                         v->remote_len, list, list_len, counts);
 }
 
 #ifdef __cplusplus
