@@ -60,10 +60,13 @@ static prepared prepare(const uint8_t *key, size_t m) {
     return k;
 }
 
-// The three places as the plaintext p of m blocks seals.
-static void seal(const prepared *k, uint64_t address, const uint8_t *p, size_t m, uint8_t *local, uint8_t *remote, uint8_t *tag) {
-    block tweak = {0, address}, mask = k->beta;
-    block g = encrypt_1(k->words, xor(mul(k->power[0], brw(k->power, p, m, tweak)), k->alpha));
+// The volume's number, then the address.
+static block tweak(uint64_t volume, uint64_t address) { return (block){volume, address}; }
+
+// The three places as the plaintext p of m blocks seals under the tweak w.
+static void seal(const prepared *k, block w, const uint8_t *p, size_t m, uint8_t *local, uint8_t *remote, uint8_t *tag) {
+    block mask = k->beta;
+    block g = encrypt_1(k->words, xor(mul(k->power[0], brw(k->power, p, m, w)), k->alpha));
     for (size_t j = 0; j < m; j++) {
         mask = twice(mask);
         block pad = encrypt_1(k->words, xor(g, mask)), v = load(p + BLOCK * j);
@@ -96,10 +99,10 @@ static void candidates(const prepared *k, const uint8_t *local, const uint8_t *t
 static bool same(const uint8_t *a, const uint8_t *b, size_t length) { return memcmp(a, b, length) == 0; }
 
 // The verdict if p is the only plaintext that fits two places, or LOST if it does not fit two.
-static uint32_t fit(const prepared *k, uint64_t address, const uint8_t *p, const uint8_t *local, const uint8_t *tag, const uint8_t *remote,
+static uint32_t fit(const prepared *k, block w, const uint8_t *p, const uint8_t *local, const uint8_t *tag, const uint8_t *remote,
                     size_t m) {
     uint8_t sealed_local[LARGEST], sealed_remote[LARGEST], sealed_tag[BLOCK];
-    seal(k, address, p, m, sealed_local, sealed_remote, sealed_tag);
+    seal(k, w, p, m, sealed_local, sealed_remote, sealed_tag);
     bool at_local = same(sealed_local, local, BLOCK * m);
     bool at_tag = same(sealed_tag, tag, BLOCK);
     bool at_remote = same(sealed_remote, remote, BLOCK * m);
@@ -108,7 +111,7 @@ static uint32_t fit(const prepared *k, uint64_t address, const uint8_t *p, const
 }
 
 // Judges m blocks. The plaintext goes to `out` unless the sector is lost or clashing.
-static uint32_t judge(const prepared *k, uint64_t address, const uint8_t *local, const uint8_t *tag, const uint8_t *remote, size_t m,
+static uint32_t judge(const prepared *k, block w, const uint8_t *local, const uint8_t *tag, const uint8_t *remote, size_t m,
                       uint8_t *out) {
     uint8_t p[3][LARGEST];
     uint32_t verdict = LOST;
@@ -117,7 +120,7 @@ static uint32_t judge(const prepared *k, uint64_t address, const uint8_t *local,
     candidates(k, local, tag, remote, m, p);
     for (int i = 0; i < 3; i++) {
         bool seen = (i > 0 && same(p[i], p[0], s)) || (i > 1 && same(p[i], p[1], s));
-        uint32_t fits = seen ? LOST : fit(k, address, p[i], local, tag, remote, m);
+        uint32_t fits = seen ? LOST : fit(k, w, p[i], local, tag, remote, m);
         if (fits == LOST) continue;
         if (found != NULL) return CLASHING;
         verdict = fits;
@@ -131,23 +134,23 @@ static uint32_t judge(const prepared *k, uint64_t address, const uint8_t *local,
 
 static bool is_size(size_t s) { return s >= BLOCK && s <= LARGEST && s % BLOCK == 0; }
 
-uint32_t plain_seal(slice key, uint64_t address, slice plain, slice_mut local, slice_mut remote, slice_mut tag) {
+uint32_t plain_seal(slice key, uint64_t volume, uint64_t address, slice plain, slice_mut local, slice_mut remote, slice_mut tag) {
     size_t s = plain.length;
     if (key.length != KEY) return KEY_LENGTH;
     if (!is_size(s)) return SECTOR_SIZE;
     if (local.length != s || remote.length != s || tag.length != BLOCK) return OTHER_LENGTH;
     prepared k = prepare(key.at, s / BLOCK);
-    seal(&k, address, plain.at, s / BLOCK, local.at, remote.at, tag.at);
+    seal(&k, tweak(volume, address), plain.at, s / BLOCK, local.at, remote.at, tag.at);
     return 0;
 }
 
-uint32_t plain_judge(slice key, uint64_t address, slice local, slice tag, slice remote, slice_mut out) {
+uint32_t plain_judge(slice key, uint64_t volume, uint64_t address, slice local, slice tag, slice remote, slice_mut out) {
     size_t s = local.length;
     if (key.length != KEY) return KEY_LENGTH;
     if (!is_size(s)) return SECTOR_SIZE;
     if (remote.length != s || out.length != s || tag.length != BLOCK) return OTHER_LENGTH;
     prepared k = prepare(key.at, s / BLOCK);
-    return judge(&k, address, local.at, tag.at, remote.at, s / BLOCK, out.at);
+    return judge(&k, tweak(volume, address), local.at, tag.at, remote.at, s / BLOCK, out.at);
 }
 
 // ---- The calls on a volume
@@ -160,25 +163,28 @@ static uint32_t check(slice key, size_t s, size_t n, size_t local, size_t tags, 
     return 0;
 }
 
-uint32_t plain_read(slice key, size_t s, size_t n, size_t number, slice local, slice tags, slice remote, slice_mut out) {
+uint32_t plain_read(slice key, uint64_t volume, size_t s, size_t n, size_t number, slice local, slice tags, slice remote,
+                    slice_mut out) {
     uint32_t refusal = check(key, s, n, local.length, tags.length, remote.length);
     if (refusal) return refusal;
     if (number >= n) return SECTOR_NUMBER;
     if (out.length != s) return OTHER_LENGTH;
     prepared k = prepare(key.at, s / BLOCK);
-    return judge(&k, number, local.at + number * s, tags.at + number * BLOCK, remote.at + number * s, s / BLOCK, out.at);
+    const uint8_t *l = local.at + number * s, *t = tags.at + number * BLOCK, *r = remote.at + number * s;
+    return judge(&k, tweak(volume, number), l, t, r, s / BLOCK, out.at);
 }
 
-uint32_t plain_mend(slice key, size_t s, size_t n, size_t number, slice_mut local, slice_mut tags, slice_mut remote) {
+uint32_t plain_mend(slice key, uint64_t volume, size_t s, size_t n, size_t number, slice_mut local, slice_mut tags,
+                    slice_mut remote) {
     uint8_t p[LARGEST], sealed_local[LARGEST], sealed_remote[LARGEST], sealed_tag[BLOCK];
     uint32_t refusal = check(key, s, n, local.length, tags.length, remote.length);
     if (refusal) return refusal;
     if (number >= n) return SECTOR_NUMBER;
     uint8_t *l = local.at + number * s, *t = tags.at + number * BLOCK, *r = remote.at + number * s;
     prepared k = prepare(key.at, s / BLOCK);
-    uint32_t verdict = judge(&k, number, l, t, r, s / BLOCK, p);
+    uint32_t verdict = judge(&k, tweak(volume, number), l, t, r, s / BLOCK, p);
     if (verdict == WHOLE || verdict == LOST || verdict == CLASHING) return verdict;
-    seal(&k, number, p, s / BLOCK, sealed_local, sealed_remote, sealed_tag);
+    seal(&k, tweak(volume, number), p, s / BLOCK, sealed_local, sealed_remote, sealed_tag);
     if (verdict == DOUBTFUL_LOCAL) memcpy(l, sealed_local, s);
     if (verdict == DOUBTFUL_TAG) memcpy(t, sealed_tag, BLOCK);
     if (verdict == DOUBTFUL_REMOTE) memcpy(r, sealed_remote, s);
@@ -193,15 +199,16 @@ static uint32_t *list_kind(uint32_t *list, const uint8_t *verdicts, size_t n, ui
     return list;
 }
 
-uint32_t plain_survey(slice key, size_t s, size_t n, slice local, slice tags, slice remote, uint32_t *list, size_t list_length,
-                      uint64_t counts[5]) {
+uint32_t plain_survey(slice key, uint64_t volume, size_t s, size_t n, slice local, slice tags, slice remote, uint32_t *list,
+                      size_t list_length, uint64_t counts[5]) {
     uint8_t p[LARGEST], verdicts[SECTORS];
     uint32_t refusal = check(key, s, n, local.length, tags.length, remote.length);
     if (refusal) return refusal;
     if (list_length < n) return LIST_LENGTH;
     prepared k = prepare(key.at, s / BLOCK);
     for (size_t i = 0; i < n; i++) {
-        verdicts[i] = (uint8_t)judge(&k, i, local.at + i * s, tags.at + i * BLOCK, remote.at + i * s, s / BLOCK, p);
+        const uint8_t *l = local.at + i * s, *t = tags.at + i * BLOCK, *r = remote.at + i * s;
+        verdicts[i] = (uint8_t)judge(&k, tweak(volume, i), l, t, r, s / BLOCK, p);
     }
     uint32_t *clashing = list_kind(list, verdicts, n, LOST, LOST);
     uint32_t *doubtful = list_kind(clashing, verdicts, n, CLASHING, CLASHING);
