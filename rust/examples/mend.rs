@@ -5,6 +5,8 @@
 
 use mirror::{ByKind, Refusal, Volume, KEY_BYTES, TAG_BYTES};
 
+/// The volume's number: each volume under a key has its own.
+const VOLUME: u64 = 1;
 const SIZE: usize = 64;
 const COUNT: usize = 4;
 
@@ -15,7 +17,7 @@ pub fn main() -> Result<(), Refusal> {
     }
     let local = vec![0; COUNT * SIZE];
     let (tags, remote) = (vec![0; COUNT * TAG_BYTES], local.clone());
-    let mut volume = Volume::new(&key, SIZE, COUNT, local, tags, remote);
+    let mut volume = Volume::new(&key, VOLUME, SIZE, COUNT, local, tags, remote);
     show(&volume, "a new volume")?;
     for number in 0..COUNT {
         volume.blank(number)?;

@@ -162,8 +162,8 @@ impl Refusal {
             Refusal::UnknownSide => "name one of the two",
             Refusal::NoneFits => "try the other side, or judge the sector if both are there",
             Refusal::Lost => {
-                "see by other sectors whether the key is right; \
-                 if it is, blank the sector and write it from a backup"
+                "see by other sectors whether the key and the volume's number are right; \
+                 if they are, blank the sector and write it from a backup"
             }
             Refusal::Clashing => {
                 "if a write was under way, go on with its second and third stage \

@@ -2,6 +2,7 @@
 //!
 //! Each call is unsafe, and gives the number of its answer: 0, hexadecimal 81, 82
 //! or 83, or a refusal from 1 to 11. Places come in the order local, tag, remote.
+//! `volume` is the volume's number, and `number` that of a sector.
 //! The functions at the root of this crate and the methods of
 //! [`Volume`](crate::Volume) are the same calls on slices, and safe.
 //!
@@ -25,6 +26,7 @@ extern "C" {
     pub fn mirror_seal(
         key: *const u8,
         key_len: usize,
+        volume: u64,
         address: u64,
         plain: *const u8,
         plain_len: usize,
@@ -40,6 +42,7 @@ extern "C" {
     pub fn mirror_judge(
         key: *const u8,
         key_len: usize,
+        volume: u64,
         address: u64,
         local: *const u8,
         local_len: usize,
@@ -55,6 +58,7 @@ extern "C" {
     pub fn mirror_open(
         key: *const u8,
         key_len: usize,
+        volume: u64,
         address: u64,
         side: u32,
         sector: *const u8,
@@ -70,6 +74,7 @@ extern "C" {
     pub fn mirror_rebuild(
         key: *const u8,
         key_len: usize,
+        volume: u64,
         address: u64,
         side: u32,
         sector: *const u8,
@@ -94,6 +99,7 @@ extern "C" {
     pub fn mirror_blank(
         key: *const u8,
         key_len: usize,
+        volume: u64,
         s: usize,
         n: usize,
         number: usize,
@@ -109,6 +115,7 @@ extern "C" {
     pub fn mirror_first_stage(
         key: *const u8,
         key_len: usize,
+        volume: u64,
         s: usize,
         n: usize,
         number: usize,
@@ -126,6 +133,7 @@ extern "C" {
     pub fn mirror_second_stage(
         key: *const u8,
         key_len: usize,
+        volume: u64,
         s: usize,
         n: usize,
         number: usize,
@@ -143,6 +151,7 @@ extern "C" {
     pub fn mirror_third_stage(
         key: *const u8,
         key_len: usize,
+        volume: u64,
         s: usize,
         n: usize,
         number: usize,
@@ -160,6 +169,7 @@ extern "C" {
     pub fn mirror_read(
         key: *const u8,
         key_len: usize,
+        volume: u64,
         s: usize,
         n: usize,
         number: usize,
@@ -177,6 +187,7 @@ extern "C" {
     pub fn mirror_mend(
         key: *const u8,
         key_len: usize,
+        volume: u64,
         s: usize,
         n: usize,
         number: usize,
@@ -194,6 +205,7 @@ extern "C" {
     pub fn mirror_survey(
         key: *const u8,
         key_len: usize,
+        volume: u64,
         s: usize,
         n: usize,
         local: *const u8,

@@ -1,11 +1,13 @@
 //! The double ciphertext mirror: safe calls of a verified library.
 //!
 //! A **sector** is kept in three places: a local sector, a tag and a remote
-//! sector. Sealing makes all three from a plaintext, under a key and an address.
-//! Any two of them give the plaintext back, so damage to one place is found and
-//! can be mended, unless another plaintext happens to fit two places as well
-//! ([`Clashing`](Refusal::Clashing)). A **volume** is a number of sectors in
-//! three images; sector `i`, from 0, has address `i`.
+//! sector. Sealing makes all three from a plaintext, under a key, a volume's
+//! number and an address. Any two of them give the plaintext back, so damage to
+//! one place is found and can be mended, unless another plaintext happens to fit
+//! two places as well ([`Clashing`](Refusal::Clashing)). A **volume** is a count
+//! of sectors in three images; sector `i`, from 0, has address `i`. The
+//! **volume's number** is any `u64`, one for each volume under a key; see
+//! [`Volume`].
 //!
 //! | what | how many bytes |
 //! |---|---|
@@ -27,17 +29,17 @@
 //! use mirror::{judge, open, seal, Place, Refusal, Side, Verdict};
 //!
 //! let key = [7; mirror::KEY_BYTES];
-//! let (address, plaintext) = (5, [42; 512]);
+//! let (volume, address, plaintext) = (1, 5, [42; 512]);
 //! let (mut local, mut tag, mut remote) = ([0; 512], [0; 16], [0; 512]);
-//! seal(&key, address, &plaintext, &mut local, &mut tag, &mut remote)?;
+//! seal(&key, volume, address, &plaintext, &mut local, &mut tag, &mut remote)?;
 //!
 //! local[100] ^= 1;
 //! let mut output = [0; 512];
-//! let verdict = judge(&key, address, &local, &tag, &remote, &mut output)?;
+//! let verdict = judge(&key, volume, address, &local, &tag, &remote, &mut output)?;
 //! assert_eq!(verdict, Verdict::Doubtful(Place::Local));
 //! assert_eq!(output, plaintext);
 //!
-//! let opened = open(&key, address, Side::Local, &local, &tag, &mut output);
+//! let opened = open(&key, volume, address, Side::Local, &local, &tag, &mut output);
 //! assert_eq!(opened, Err(Refusal::NoneFits));
 //! # Ok::<(), Refusal>(())
 //! ```
@@ -52,16 +54,16 @@
 //! ```
 //! use mirror::{Place, Refusal, Verdict, Volume, KEY_BYTES, TAG_BYTES};
 //!
-//! let (key, size, count) = ([7; KEY_BYTES], 512, 4);
+//! let (key, number, size, count) = ([7; KEY_BYTES], 1, 512, 4);
 //! let local = vec![0; count * size];
 //! let (tags, remote) = (vec![0; count * TAG_BYTES], local.clone());
-//! let mut volume = Volume::new(&key, size, count, local, tags, remote);
+//! let mut volume = Volume::new(&key, number, size, count, local, tags, remote);
 //! # let write_out = |part: Option<&[u8]>| assert!(part.is_some());
-//! for number in 0..count {
-//!     volume.blank(number)?;
-//!     write_out(volume.local_part(number));
-//!     write_out(volume.tag_part(number));
-//!     write_out(volume.remote_part(number));
+//! for i in 0..count {
+//!     volume.blank(i)?;
+//!     write_out(volume.local_part(i));
+//!     write_out(volume.tag_part(i));
+//!     write_out(volume.remote_part(i));
 //! }
 //!
 //! let plaintext = [42; 512];
@@ -124,18 +126,20 @@
 //! plaintext whether to write again. If it clashes, make the second and the third
 //! stage with the same plaintext. If the second is refused
 //! ([`StageOrder`](Refusal::StageOrder)), the first was cut, and the old plaintext
-//! still fits tag and remote sector: [`rebuild`] from the remote side (the address
-//! is the sector's number) gives the local sector that belongs there.
+//! still fits tag and remote sector: [`rebuild`] from the remote side (under the
+//! volume's number; the address is the sector's number) gives the local sector
+//! that belongs there.
 //!
 //! # Secrets
 //!
 //! Local and remote sector together give the plaintext **without** the key
-//! ([`combine`]). The hash key must not be zero; no call checks that. One key
-//! belongs to one volume: key, address and plaintext alone decide all bytes, so
-//! under one key equal sectors at equal addresses look equal, and a sector of one
-//! volume is accepted in the other. A call does not wipe what it leaves on the
-//! stack, and its time depends on secret bytes. What an attacker can guess or forge
-//! is no claim of the library.
+//! ([`combine`]). The hash key must not be zero; no call checks that. One key and
+//! number belong to one volume: key, number, address and plaintext alone decide all
+//! bytes, so under one key and one number equal sectors at equal addresses look
+//! equal, and a sector of one volume is accepted in the other. The number is not
+//! secret, and no key. A call does not wipe what it leaves on the stack, and its
+//! time depends on secret bytes. What an attacker can guess or forge is no claim of
+//! the library.
 //!
 //! # Memory and threads
 //!

@@ -3,8 +3,11 @@
 use crate::answer::{done, judged};
 use crate::{ffi, Refusal, Side, Verdict};
 
-/// Seals the plaintext under key and address: writes the local sector, the tag
-/// and the remote sector.
+/// Seals the plaintext under key, volume's number and address: writes the local
+/// sector, the tag and the remote sector.
+///
+/// A sector is sealed under number and address together. Where every call
+/// exchanges the two it is not noticed; where one does, the sector is lost.
 ///
 /// # Errors
 ///
@@ -13,6 +16,7 @@ use crate::{ffi, Refusal, Side, Verdict};
 /// [`OtherLength`](Refusal::OtherLength) of a sector or the tag.
 pub fn seal(
     key: &[u8],
+    volume: u64,
     address: u64,
     plaintext: &[u8],
     local: &mut [u8],
@@ -25,6 +29,7 @@ pub fn seal(
         ffi::mirror_seal(
             key.as_ptr(),
             key.len(),
+            volume,
             address,
             plaintext.as_ptr(),
             plaintext.len(),
@@ -51,6 +56,7 @@ pub fn seal(
 /// output; [`Lost`](Refusal::Lost); [`Clashing`](Refusal::Clashing).
 pub fn judge(
     key: &[u8],
+    volume: u64,
     address: u64,
     local: &[u8],
     tag: &[u8],
@@ -62,6 +68,7 @@ pub fn judge(
         ffi::mirror_judge(
             key.as_ptr(),
             key.len(),
+            volume,
             address,
             local.as_ptr(),
             local.len(),
@@ -86,6 +93,7 @@ pub fn judge(
 /// [`NoneFits`](Refusal::NoneFits).
 pub fn open(
     key: &[u8],
+    volume: u64,
     address: u64,
     side: Side,
     sector: &[u8],
@@ -97,6 +105,7 @@ pub fn open(
         ffi::mirror_open(
             key.as_ptr(),
             key.len(),
+            volume,
             address,
             side.number(),
             sector.as_ptr(),
@@ -117,6 +126,7 @@ pub fn open(
 /// As [`open`].
 pub fn rebuild(
     key: &[u8],
+    volume: u64,
     address: u64,
     side: Side,
     sector: &[u8],
@@ -128,6 +138,7 @@ pub fn rebuild(
         ffi::mirror_rebuild(
             key.as_ptr(),
             key.len(),
+            volume,
             address,
             side.number(),
             sector.as_ptr(),

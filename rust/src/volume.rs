@@ -5,7 +5,12 @@ use core::fmt;
 use crate::answer::{done, judged};
 use crate::{ffi, Refusal, Verdict, TAG_BYTES};
 
-/// A volume: its key, its shape and its three images.
+/// A volume: its key, its number, its shape and its three images.
+///
+/// Key and number belong to one volume: give each volume under a key a number of
+/// its own, and never use it again for another volume under that key. Volumes
+/// made by releases before 0.3.0 have the number 0. It is not secret, and not
+/// stored: keep it beside the volume, as size and count.
 ///
 /// The images are lent or owned, and all of one type: `&mut [u8]`, `Vec<u8>` or
 /// any other that gives its bytes by [`AsRef`] and [`AsMut`]. To read and survey,
@@ -20,14 +25,14 @@ use crate::{ffi, Refusal, Verdict, TAG_BYTES};
 /// ```
 /// use mirror::{Refusal, Volume, KEY_BYTES, TAG_BYTES};
 ///
-/// let (key, size, count) = ([7; KEY_BYTES], 512, 4);
+/// let (key, volume, size, count) = ([7; KEY_BYTES], 1, 512, 4);
 /// let local = vec![0; count * size];
 /// let (tags, remote) = (vec![0; count * TAG_BYTES], local.clone());
 ///
-/// let reader = Volume::new(&key, size, count, &local[..], &tags[..], &remote[..]);
+/// let reader = Volume::new(&key, volume, size, count, &local[..], &tags[..], &remote[..]);
 /// assert_eq!(reader.read(0, &mut [0; 512]), Err(Refusal::Lost));
 ///
-/// let mut owner = Volume::new(&key, size, count, local, tags, remote);
+/// let mut owner = Volume::new(&key, volume, size, count, local, tags, remote);
 /// owner.blank(0)?;
 /// let (local, tags, remote) = owner.into_images();
 /// # Ok::<(), Refusal>(())
@@ -35,6 +40,7 @@ use crate::{ffi, Refusal, Verdict, TAG_BYTES};
 #[derive(Clone)]
 pub struct Volume<'k, I> {
     key: &'k [u8],
+    number: u64,
     size: usize,
     count: usize,
     local: I,
@@ -42,11 +48,12 @@ pub struct Volume<'k, I> {
     remote: I,
 }
 
-/// The shape alone: the key is a secret, and local and remote image together
-/// give the plaintexts.
+/// Number and shape alone: the key is a secret, and local and remote image
+/// together give the plaintexts.
 impl<I> fmt::Debug for Volume<'_, I> {
     fn fmt(&self, f: &mut fmt::Formatter<'_>) -> fmt::Result {
         f.debug_struct("Volume")
+            .field("number", &self.number)
             .field("size", &self.size)
             .field("count", &self.count)
             .finish_non_exhaustive()
@@ -54,14 +61,16 @@ impl<I> fmt::Debug for Volume<'_, I> {
 }
 
 impl<'k, I> Volume<'k, I> {
-    /// A volume of `count` sectors of `size` bytes, under a key of 32 bytes. The
-    /// local and the remote image have `count` times `size` bytes, the tag image
-    /// `count` times 16.
+    /// The volume of number `volume`, with `count` sectors of `size` bytes, under a
+    /// key of 32 bytes. The local and the remote image have `count` times `size`
+    /// bytes, the tag image `count` times 16.
     ///
     /// Nothing is checked or written here: every call checks for itself, and
-    /// refuses what is wrong.
+    /// refuses what is wrong. Every number is accepted. Under another one than the
+    /// volume's a sector is lost, unless its plaintext has one tag under both.
     pub const fn new(
         key: &'k [u8],
+        volume: u64,
         size: usize,
         count: usize,
         local: I,
@@ -70,12 +79,18 @@ impl<'k, I> Volume<'k, I> {
     ) -> Self {
         Volume {
             key,
+            number: volume,
             size,
             count,
             local,
             tags,
             remote,
         }
+    }
+
+    /// The volume's number.
+    pub const fn number(&self) -> u64 {
+        self.number
     }
 
     /// The bytes of a sector.
@@ -156,6 +171,7 @@ impl<I: AsRef<[u8]>> Volume<'_, I> {
             ffi::mirror_read(
                 self.key.as_ptr(),
                 self.key.len(),
+                self.number,
                 self.size,
                 self.count,
                 number,
@@ -177,8 +193,8 @@ impl<I: AsRef<[u8]>> Volume<'_, I> {
     /// of the list, which is given back cut to these. Entries behind are
     /// untouched. The numbers come in repair order: first the lost sectors, then
     /// the clashing, then the doubtful; within a kind they rise. So the list is
-    /// one value for a key and a volume, and [`Survey::by_kind`] tells the kinds
-    /// without a read.
+    /// one value for a key, a volume's number and a volume, and
+    /// [`Survey::by_kind`] tells the kinds without a read.
     ///
     /// # Errors
     ///
@@ -194,6 +210,7 @@ impl<I: AsRef<[u8]>> Volume<'_, I> {
             ffi::mirror_survey(
                 self.key.as_ptr(),
                 self.key.len(),
+                self.number,
                 self.size,
                 self.count,
                 local.as_ptr(),
@@ -250,6 +267,7 @@ impl<I: AsRef<[u8]> + AsMut<[u8]>> Volume<'_, I> {
             ffi::mirror_blank(
                 self.key.as_ptr(),
                 self.key.len(),
+                self.number,
                 self.size,
                 self.count,
                 number,
@@ -286,6 +304,7 @@ impl<I: AsRef<[u8]> + AsMut<[u8]>> Volume<'_, I> {
             ffi::mirror_first_stage(
                 self.key.as_ptr(),
                 self.key.len(),
+                self.number,
                 self.size,
                 self.count,
                 number,
@@ -322,6 +341,7 @@ impl<I: AsRef<[u8]> + AsMut<[u8]>> Volume<'_, I> {
             ffi::mirror_second_stage(
                 self.key.as_ptr(),
                 self.key.len(),
+                self.number,
                 self.size,
                 self.count,
                 number,
@@ -358,6 +378,7 @@ impl<I: AsRef<[u8]> + AsMut<[u8]>> Volume<'_, I> {
             ffi::mirror_third_stage(
                 self.key.as_ptr(),
                 self.key.len(),
+                self.number,
                 self.size,
                 self.count,
                 number,
@@ -392,6 +413,7 @@ impl<I: AsRef<[u8]> + AsMut<[u8]>> Volume<'_, I> {
             ffi::mirror_mend(
                 self.key.as_ptr(),
                 self.key.len(),
+                self.number,
                 self.size,
                 self.count,
                 number,
@@ -440,7 +462,7 @@ impl Survey {
     /// use mirror::{ByKind, Refusal, Volume, KEY_BYTES};
     ///
     /// let key = [7; KEY_BYTES];
-    /// let mut volume = Volume::new(&key, 16, 4, vec![0; 64], vec![0; 64], vec![0; 64]);
+    /// let mut volume = Volume::new(&key, 1, 16, 4, vec![0; 64], vec![0; 64], vec![0; 64]);
     /// for number in [0, 1, 3] {
     ///     volume.blank(number)?;
     /// }
@@ -497,8 +519,8 @@ fn first_of(list: &[u32], count: usize) -> (&[u32], &[u32]) {
 #[derive(Clone, Copy, Debug, PartialEq, Eq, Hash)]
 pub struct ByKind<'l> {
     /// The lost sectors: no plaintext fits two places. If no sector is whole, look
-    /// for the right key first: under a wrong one all are lost. Otherwise blank
-    /// them, and write them from a backup.
+    /// for the right key and volume's number first: under a wrong one all are
+    /// lost. Otherwise blank them, and write them from a backup.
     pub lost: &'l [u32],
     /// The clashing ones: more than one plaintext fits two places. If a write was
     /// under way, go on with it; otherwise see [`Refusal::Clashing`].

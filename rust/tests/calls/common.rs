@@ -8,6 +8,9 @@ pub const SIZE: usize = 48;
 /// How many sectors a test's volume has.
 pub const COUNT: usize = 3;
 
+/// The number of a test's volume; all its bytes differ.
+pub const VOLUME: u64 = 0xf0e1_d2c3_b4a5_9687;
+
 /// A key whose bytes all differ.
 pub fn key() -> Vec<u8> {
     (100..132).collect()
@@ -26,7 +29,7 @@ pub struct Triple {
     pub remote: Vec<u8>,
 }
 
-/// The sealing of a plaintext under [`key`].
+/// The sealing of a plaintext under [`key`] and [`VOLUME`].
 pub fn sealed(address: u64, plaintext: &[u8]) -> Triple {
     let mut triple = Triple {
         local: vec![0; plaintext.len()],
@@ -34,7 +37,7 @@ pub fn sealed(address: u64, plaintext: &[u8]) -> Triple {
         remote: vec![0; plaintext.len()],
     };
     let Triple { local, tag, remote } = &mut triple;
-    seal(&key(), address, plaintext, local, tag, remote).expect("lengths are right");
+    seal(&key(), VOLUME, address, plaintext, local, tag, remote).expect("lengths are right");
     triple
 }
 

@@ -1,14 +1,14 @@
 //! What a volume is made of: images that are owned, lent to be read only, or of
 //! any type that gives its bytes, and a sector's parts of them.
 
-use crate::common::{bytes, key, sealed, Triple, COUNT, SIZE};
+use crate::common::{bytes, key, sealed, Triple, COUNT, SIZE, VOLUME};
 use mirror::{Place, Refusal, Survey, Verdict, Volume, TAG_BYTES};
 use std::cell::Cell;
 
 /// A volume that owns its images, all sectors blanked.
 fn blanked(key: &[u8]) -> Volume<'_, Vec<u8>> {
     let (local, tags) = (vec![1; COUNT * SIZE], vec![2; COUNT * TAG_BYTES]);
-    let mut volume = Volume::new(key, SIZE, COUNT, local, tags, vec![3; COUNT * SIZE]);
+    let mut volume = Volume::new(key, VOLUME, SIZE, COUNT, local, tags, vec![3; COUNT * SIZE]);
     for number in 0..COUNT {
         assert_eq!(volume.blank(number), Ok(()));
     }
@@ -19,6 +19,7 @@ fn blanked(key: &[u8]) -> Volume<'_, Vec<u8>> {
 fn owned_images_are_given_back() {
     let (key, plaintext) = (key(), bytes(1));
     let mut volume = blanked(&key);
+    assert_eq!(volume.number(), VOLUME);
     assert_eq!((volume.size(), volume.count()), (SIZE, COUNT));
     assert_eq!(volume.first_stage(1, &plaintext), Ok(()));
     assert_eq!(volume.second_stage(1, &plaintext), Ok(()));
@@ -54,7 +55,7 @@ fn images_can_be_written_between_calls() {
 fn images_that_are_only_read() {
     let (key, plaintext) = (key(), bytes(2));
     let Triple { local, tag, remote } = sealed(0, &plaintext);
-    let volume = Volume::new(&key, SIZE, 1, &local[..], &tag[..], &remote[..]);
+    let volume = Volume::new(&key, VOLUME, SIZE, 1, &local[..], &tag[..], &remote[..]);
     let mut output = [0; SIZE];
     assert_eq!(volume.read(0, &mut output), Ok(Verdict::Whole));
     assert_eq!(output[..], plaintext);
@@ -67,7 +68,7 @@ fn images_that_are_only_read() {
     };
     assert_eq!(volume.survey(&mut [9]), Ok((due, &[][..])));
 
-    let short = Volume::new(&key, SIZE, 1, &local[..], &tag[1..], &remote[..]);
+    let short = Volume::new(&key, VOLUME, SIZE, 1, &local[..], &tag[1..], &remote[..]);
     let refused = Err(Refusal::VolumeShape);
     assert_eq!(short.read(0, &mut output), refused);
     assert_eq!(short.survey(&mut [9]).map(|_| Verdict::Whole), refused);
@@ -107,7 +108,7 @@ fn a_call_asks_each_image_for_its_bytes_once() {
         (remote, &counts[2]),
     ]
     .map(|(bytes, asked)| Counted { bytes, asked });
-    let mut volume = Volume::new(&key, SIZE, COUNT, local, tags, remote);
+    let mut volume = Volume::new(&key, VOLUME, SIZE, COUNT, local, tags, remote);
     let once = || assert_eq!(counts.each_ref().map(Cell::take), [1; 3]);
 
     assert_eq!(volume.blank(2), Ok(()));
@@ -154,7 +155,7 @@ fn parts<I: AsRef<[u8]>>(volume: &Volume<I>, number: usize) -> [Option<usize>; 3
 #[test]
 fn images_of_another_shape_have_no_such_part() {
     let (side, tags) = ([0; 2 * SIZE], [0; 2 * TAG_BYTES]);
-    let of_shape = |size, count| Volume::new(&[], size, count, &side[..], &tags[..], &side[1..]);
+    let of_shape = |size, count| Volume::new(&[], 0, size, count, &side[..], &tags[..], &side[1..]);
     let (sector, tag) = (Some(SIZE), Some(TAG_BYTES));
     assert_eq!(parts(&of_shape(SIZE, 2), 0), [sector, tag, sector]);
     // The remote image is a byte too short for sector 1.
@@ -179,5 +180,6 @@ fn images_of_another_shape_have_no_such_part() {
 #[test]
 fn neither_key_nor_images_are_shown() {
     let shown = format!("{:?}", blanked(&key()));
-    assert_eq!(shown, "Volume { size: 48, count: 3, .. }");
+    let due = format!("Volume {{ number: {VOLUME}, size: 48, count: 3, .. }}");
+    assert_eq!(shown, due);
 }

@@ -2,7 +2,7 @@
 //! and what only the unsafe functions can show: an unknown side, null pointers,
 //! and counts after a refusal.
 
-use crate::common::{bytes, key, sealed, Triple, SIZE};
+use crate::common::{bytes, key, sealed, Triple, SIZE, VOLUME};
 use mirror::{ffi, Place, Refusal, Side, Verdict};
 use std::collections::HashSet;
 use std::ptr::{null, null_mut};
@@ -84,6 +84,7 @@ fn an_unknown_side_is_refused() {
                 call(
                     key.as_ptr(),
                     key.len(),
+                    VOLUME,
                     0,
                     side,
                     local.as_ptr(),
@@ -111,6 +112,7 @@ fn a_refused_survey_leaves_the_counts() {
         ffi::mirror_survey(
             key.as_ptr(),
             key.len(),
+            VOLUME,
             SIZE,
             1,
             local.as_ptr(),

@@ -1,6 +1,6 @@
 //! The calls on one sector: each answer as the wrapper names it.
 
-use crate::common::{bytes, clashing, key, sealed, Triple, SIZE};
+use crate::common::{bytes, clashing, key, sealed, Triple, SIZE, VOLUME};
 use mirror::{combine, judge, open, rebuild, seal};
 use mirror::{Place, Refusal, Side, Verdict};
 use mirror::{SECTOR_BYTES_MAX, SECTOR_BYTES_MIN, TAG_BYTES};
@@ -10,7 +10,7 @@ const ADDRESS: u64 = 0x0123_4567_89ab_cdef;
 fn judge_triple(triple: &Triple, address: u64) -> (Result<Verdict, Refusal>, Vec<u8>) {
     let mut output = vec![0xee; triple.local.len()];
     let Triple { local, tag, remote } = triple;
-    let verdict = judge(&key(), address, local, tag, remote, &mut output);
+    let verdict = judge(&key(), VOLUME, address, local, tag, remote, &mut output);
     (verdict, output)
 }
 
@@ -59,7 +59,15 @@ fn each_side_of_a_clash_opens() {
     ];
     for (side, sector, plaintext) in sides {
         let mut output = vec![0; SIZE];
-        let opened = open(&key(), ADDRESS, side, sector, &triple.tag, &mut output);
+        let opened = open(
+            &key(),
+            VOLUME,
+            ADDRESS,
+            side,
+            sector,
+            &triple.tag,
+            &mut output,
+        );
         assert_eq!((opened, output), (Ok(()), plaintext));
     }
 }
@@ -72,8 +80,30 @@ fn rebuilds_each_side() {
         (Side::Remote, &remote, &local),
     ] {
         let mut output = vec![0; SIZE];
-        let rebuilt = rebuild(&key(), ADDRESS, side, sector, &tag, &mut output);
+        let rebuilt = rebuild(&key(), VOLUME, ADDRESS, side, sector, &tag, &mut output);
         assert_eq!((rebuilt, &output), (Ok(()), missing));
+    }
+}
+
+/// Lost under every other number, and also where number and address are
+/// exchanged.
+#[test]
+fn a_sector_under_another_number() {
+    let triple = sealed(ADDRESS, &bytes(8));
+    let Triple { local, tag, remote } = &triple;
+    let others = [0, 1, VOLUME ^ 1, VOLUME ^ (1 << 63), VOLUME.swap_bytes()];
+    let others = others.map(|volume| (volume, ADDRESS));
+    for (volume, address) in [&others[..], &[(ADDRESS, VOLUME)]].concat() {
+        let mut output = vec![0xee; SIZE];
+        let judged = judge(&key(), volume, address, local, tag, remote, &mut output);
+        assert_eq!(judged, Err(Refusal::Lost));
+        for (side, sector) in [(Side::Local, local), (Side::Remote, remote)] {
+            for call in [open, rebuild] {
+                let refused = call(&key(), volume, address, side, sector, tag, &mut output);
+                assert_eq!(refused, Err(Refusal::NoneFits));
+            }
+        }
+        assert_eq!(output, [0xee; SIZE]);
     }
 }
 
@@ -104,6 +134,7 @@ fn seal_and_judge_refuse_in_order() {
         let key = &key()[..key_length];
         let refused = seal(
             key,
+            VOLUME,
             ADDRESS,
             &plaintext[..size],
             local,
@@ -116,7 +147,7 @@ fn seal_and_judge_refuse_in_order() {
         let Triple { local, tag, remote } = &whole;
         let mut output = vec![0xee; SIZE];
         let (local, tag) = (&local[..size], &tag[..tag_length]);
-        let refused = judge(key, ADDRESS, local, tag, remote, &mut output);
+        let refused = judge(key, VOLUME, ADDRESS, local, tag, remote, &mut output);
         assert_eq!((refused, output), (Err(due), vec![0xee; SIZE]));
     }
 }
@@ -134,7 +165,7 @@ fn open_and_rebuild_refuse_in_order() {
         for call in [open, rebuild] {
             let (key, sector, tag) = (&key()[..key_length], &sector[..size], &tag[..tag_length]);
             let mut output = vec![0xee; SIZE];
-            let refused = call(key, ADDRESS, Side::Local, sector, tag, &mut output);
+            let refused = call(key, VOLUME, ADDRESS, Side::Local, sector, tag, &mut output);
             assert_eq!((refused, output), (Err(due), vec![0xee; SIZE]));
         }
     }
@@ -152,6 +183,7 @@ fn sizes_at_the_bounds() {
         let (mut local, mut remote) = (vec![0; size], vec![0; size]);
         let answer = seal(
             &key(),
+            VOLUME,
             ADDRESS,
             &vec![9; size],
             &mut local,

@@ -1,6 +1,6 @@
 //! The calls on a volume: each answer as the wrapper names it.
 
-use crate::common::{bytes, clashing, key, sealed, Triple, COUNT, SIZE};
+use crate::common::{bytes, clashing, key, sealed, Triple, COUNT, SIZE, VOLUME};
 use mirror::{ByKind, Place, Refusal, Side, Survey, Verdict, Volume};
 use mirror::{TAG_BYTES, VOLUME_SECTORS_MAX};
 
@@ -39,7 +39,7 @@ impl Images {
             tags,
             remote,
         } = self;
-        Volume::new(key, size, count, local, tags, remote)
+        Volume::new(key, VOLUME, size, count, local, tags, remote)
     }
 
     fn put(&mut self, number: usize, triple: &Triple) {
@@ -144,12 +144,44 @@ fn a_first_stage_cut_into_a_clash_is_undone_by_rebuilding() {
     let mut local = [0; SIZE];
     let (tag, remote) = (volume.tag_part(1), volume.remote_part(1));
     let (tag, remote) = (tag.expect("sector 1"), remote.expect("sector 1"));
-    let rebuilt = mirror::rebuild(&key, 1, Side::Remote, remote, tag, &mut local);
+    let rebuilt = mirror::rebuild(&key, VOLUME, 1, Side::Remote, remote, tag, &mut local);
     assert_eq!(rebuilt, Ok(()));
     volume.local_mut()[SIZE..2 * SIZE].copy_from_slice(&local);
     let mut output = [0; SIZE];
     assert_eq!(volume.read(1, &mut output), Ok(Verdict::Whole));
     assert_eq!(output[..], old);
+}
+
+/// Under another number than its own a volume is lost, and a call that needs what
+/// is there changes nothing.
+#[test]
+fn a_volume_under_another_number() {
+    let (key, plaintext) = (key(), bytes(4));
+    let mut images = Images::blanked();
+    images.put(1, &sealed(1, &plaintext));
+    let before = images.clone();
+    let Images {
+        local,
+        tags,
+        remote,
+    } = &mut images;
+    for number in [0, VOLUME ^ 1, u64::MAX] {
+        let (local, tags, remote) = (&mut local[..], &mut tags[..], &mut remote[..]);
+        let mut volume = Volume::new(&key, number, SIZE, COUNT, local, tags, remote);
+        assert_eq!(volume.number(), number);
+        let mut output = [0xee; SIZE];
+        assert_eq!(volume.read(1, &mut output), Err(Refusal::Lost));
+        assert_eq!(output, [0xee; SIZE]);
+        assert_eq!(volume.mend(1), Err(Refusal::Lost));
+        let early = Err(Refusal::StageOrder);
+        assert_eq!(volume.first_stage(1, &plaintext), early);
+        assert_eq!(volume.second_stage(1, &plaintext), early);
+        assert_eq!(volume.third_stage(1, &plaintext), early);
+        let mut list = [9; COUNT];
+        let (survey, listed) = volume.survey(&mut list).expect("accepted");
+        assert_eq!((survey.lost, listed), (COUNT, &[0, 1, 2][..]));
+    }
+    assert_eq!(images, before);
 }
 
 /// Why a caller must rule these out: a stored tag that is a mixture of the old
