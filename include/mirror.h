@@ -14,7 +14,8 @@
  *              Sector number i, from 0, has address i: its parts begin at i*s, i*16 and i*s.
  *              A volume has a number too, `volume` in the calls: any 64-bit number, one for each volume under a key, and never used again
  *              for another volume under that key; 0 for volumes made by releases before 0.3.0. It is not secret. The library does not
- *              store it: keep it beside the volume, as s and n. A sector is judged under the number that it was sealed under.
+ *              store it: keep it beside the volume, as s and n. A sector is judged under the number that it was sealed under; under
+ *              another it is lost, unless its plaintext has one tag under both.
  *
  * BUILD AND LINK. In the library's source tree `scripts/install PREFIX` puts mirror.h into PREFIX/include, libmirror.a into PREFIX/lib and
  * mirror.pc into PREFIX/lib/pkgconfig. A program is then built by
@@ -303,9 +304,9 @@ MIRROR_ANSWER mirror_mend(const uint8_t *key, size_t key_len, uint64_t volume, s
  *       If counts[MIRROR_COUNT_WHOLE] is 0 the key or the volume's number may be wrong: look for the right ones before anything is
  *       blanked.
  */
-MIRROR_ANSWER mirror_survey(const uint8_t *key, size_t key_len, uint64_t volume, size_t s, size_t n, const uint8_t *local,
-                            size_t local_len, const uint8_t *tags, size_t tags_len, const uint8_t *remote, size_t remote_len,
-                            uint32_t *list, size_t list_len, uint64_t counts[MIRROR_COUNTS_LENGTH]);
+MIRROR_ANSWER mirror_survey(const uint8_t *key, size_t key_len, uint64_t volume, size_t s, size_t n, const uint8_t *local, size_t local_len,
+                            const uint8_t *tags, size_t tags_len, const uint8_t *remote, size_t remote_len, uint32_t *list, size_t list_len,
+                            uint64_t counts[MIRROR_COUNTS_LENGTH]);
 
 /* ---- written in this header, over the calls above */
 

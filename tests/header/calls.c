@@ -13,15 +13,25 @@
 #endif
 
 enum { SIZE = 32, COUNT = 3, ENTRIES = COUNT + 1, BUFFERS = 11 };
-static const uint64_t ADDRESS = 0x0102030405060708;
+static const uint64_t ADDRESS = 0x0102030405060708, VOLUME = 0xf1f2f3f4f5f6f7f8;
 
-/* The sealing of the bytes 80 to 9f (hexadecimal) under the key 00 to 1f at ADDRESS, by the independent implementation. */
-static const uint8_t STORED_LOCAL[SIZE] = {0x8f, 0xb4, 0x0d, 0xfc, 0x03, 0xdd, 0x5c, 0xe2, 0x3b, 0x20, 0xab, 0x42, 0x10, 0x44, 0x72, 0x01,
-                                           0xf4, 0xbe, 0x61, 0x01, 0x7a, 0x96, 0xb5, 0xda, 0x7d, 0x3c, 0x4e, 0xf0, 0x26, 0x7e, 0x1d, 0x13};
-static const uint8_t STORED_TAG[MIRROR_TAG_BYTES] = {0xdf, 0x77, 0x7e, 0xb3, 0xbd, 0xba, 0xf5, 0x31,
-                                                     0xfd, 0x6e, 0x59, 0x59, 0xb4, 0x27, 0x3a, 0xac};
-static const uint8_t STORED_REMOTE[SIZE] = {0x0f, 0x35, 0x8f, 0x7f, 0x87, 0x58, 0xda, 0x65, 0xb3, 0xa9, 0x21, 0xc9, 0x9c, 0xc9, 0xfc, 0x8e,
-                                            0x64, 0x2f, 0xf3, 0x92, 0xee, 0x03, 0x23, 0x4d, 0xe5, 0xa5, 0xd4, 0x6b, 0xba, 0xe3, 0x83, 0x8c};
+/* A sector as it is stored. */
+typedef struct {
+    uint8_t local[SIZE], tag[MIRROR_TAG_BYTES], remote[SIZE];
+} Stored;
+
+/* The sealing of the bytes 80 to 9f (hexadecimal) under the key 00 to 1f at ADDRESS, by the independent implementation: under VOLUME, and
+ * under the number 0, as releases before 0.3.0 gave it. */
+static const Stored STORED = {{0x28, 0x7e, 0xf9, 0x4d, 0x85, 0xbe, 0x9d, 0xbd, 0x05, 0xed, 0x7f, 0x2b, 0x6d, 0x52, 0x88, 0xe4,
+                               0xa8, 0x41, 0xca, 0x26, 0x43, 0xb5, 0xc5, 0xce, 0xd9, 0xaf, 0xd4, 0xed, 0x77, 0x9a, 0x3c, 0xd8},
+                              {0x96, 0x19, 0x4f, 0xf9, 0x2f, 0xf8, 0xfe, 0xcf, 0x3a, 0x41, 0x68, 0x75, 0x79, 0x08, 0x77, 0xb9},
+                              {0xa8, 0xff, 0x7b, 0xce, 0x01, 0x3b, 0x1b, 0x3a, 0x8d, 0x64, 0xf5, 0xa0, 0xe1, 0xdf, 0x06, 0x6b,
+                               0x38, 0xd0, 0x58, 0xb5, 0xd7, 0x20, 0x53, 0x59, 0x41, 0x36, 0x4e, 0x76, 0xeb, 0x07, 0xa2, 0x47}};
+static const Stored STORED_UNDER_0 = {{0x8f, 0xb4, 0x0d, 0xfc, 0x03, 0xdd, 0x5c, 0xe2, 0x3b, 0x20, 0xab, 0x42, 0x10, 0x44, 0x72, 0x01,
+                                       0xf4, 0xbe, 0x61, 0x01, 0x7a, 0x96, 0xb5, 0xda, 0x7d, 0x3c, 0x4e, 0xf0, 0x26, 0x7e, 0x1d, 0x13},
+                                      {0xdf, 0x77, 0x7e, 0xb3, 0xbd, 0xba, 0xf5, 0x31, 0xfd, 0x6e, 0x59, 0x59, 0xb4, 0x27, 0x3a, 0xac},
+                                      {0x0f, 0x35, 0x8f, 0x7f, 0x87, 0x58, 0xda, 0x65, 0xb3, 0xa9, 0x21, 0xc9, 0x9c, 0xc9, 0xfc, 0x8e,
+                                       0x64, 0x2f, 0xf3, 0x92, 0xee, 0x03, 0x23, 0x4d, 0xe5, 0xa5, 0xd4, 0x6b, 0xba, 0xe3, 0x83, 0x8c}};
 
 /* ---- checks */
 
@@ -125,6 +135,8 @@ static void as_due(int line, const char *call)
 
 #define NOTHING NULL, 0
 #define KEY key, MIRROR_KEY_BYTES
+#define KEYED KEY, VOLUME
+#define NO_KEY NOTHING, VOLUME
 #define PLAIN plain, SIZE
 #define LOCAL local, SIZE
 #define TAG tag, MIRROR_TAG_BYTES
@@ -160,10 +172,10 @@ static void fill(uint8_t *at, size_t length, unsigned first)
     }
 }
 
-/* Puts the sealing of `plain` at this address into local, tag and remote. */
+/* Puts the sealing of `plain` under VOLUME at this address into local, tag and remote. */
 static void sealed(uint64_t address)
 {
-    answers(MIRROR_DONE, mirror_seal(KEY, address, PLAIN, LOCAL, TAG, REMOTE), __LINE__, "sealing");
+    answers(MIRROR_DONE, mirror_seal(KEYED, address, PLAIN, LOCAL, TAG, REMOTE), __LINE__, "sealing");
 }
 
 /* The plaintexts (h, 0) and (h, 1) have one tag: the local sector of the second with the remote sector of the first clash. */
@@ -262,20 +274,29 @@ static void texts(void)
 
 /* ---- one sector */
 
+/* The three places are due as they are stored. */
+static void due_stored(const Stored *stored)
+{
+    DUE(local, stored->local, SIZE);
+    DUE(tag, stored->tag, MIRROR_TAG_BYTES);
+    DUE(remote, stored->remote, SIZE);
+}
+
 static void seals(void)
 {
-    GIVES(MIRROR_DONE, mirror_seal(KEY, ADDRESS, PLAIN, LOCAL, TAG, REMOTE));
-    DUE(local, STORED_LOCAL, SIZE);
-    DUE(tag, STORED_TAG, MIRROR_TAG_BYTES);
-    DUE(remote, STORED_REMOTE, SIZE);
+    GIVES(MIRROR_DONE, mirror_seal(KEY, 0, ADDRESS, PLAIN, LOCAL, TAG, REMOTE));
+    due_stored(&STORED_UNDER_0);
+    NO_MORE("mirror_seal under the number 0");
+    GIVES(MIRROR_DONE, mirror_seal(KEYED, ADDRESS, PLAIN, LOCAL, TAG, REMOTE));
+    due_stored(&STORED);
     NO_MORE("mirror_seal");
-    REFUSES(MIRROR_REFUSED_KEY_LENGTH, mirror_seal(NOTHING, ADDRESS, NOTHING, NOTHING, NOTHING, NOTHING));
-    REFUSES(MIRROR_REFUSED_KEY_LENGTH, mirror_seal(key, 31, ADDRESS, PLAIN, LOCAL, TAG, REMOTE));
-    REFUSES(MIRROR_REFUSED_SECTOR_SIZE, mirror_seal(KEY, ADDRESS, NOTHING, NOTHING, NOTHING, NOTHING));
-    REFUSES(MIRROR_REFUSED_SECTOR_SIZE, mirror_seal(KEY, ADDRESS, plain, 15, local, 15, TAG, remote, 15));
-    REFUSES(MIRROR_REFUSED_OTHER_LENGTH, mirror_seal(KEY, ADDRESS, PLAIN, NOTHING, TAG, REMOTE));
-    REFUSES(MIRROR_REFUSED_OTHER_LENGTH, mirror_seal(KEY, ADDRESS, PLAIN, LOCAL, TAG, remote, 16));
-    REFUSES(MIRROR_REFUSED_OTHER_LENGTH, mirror_seal(KEY, ADDRESS, PLAIN, LOCAL, tag, 15, REMOTE));
+    REFUSES(MIRROR_REFUSED_KEY_LENGTH, mirror_seal(NO_KEY, ADDRESS, NOTHING, NOTHING, NOTHING, NOTHING));
+    REFUSES(MIRROR_REFUSED_KEY_LENGTH, mirror_seal(key, 31, VOLUME, ADDRESS, PLAIN, LOCAL, TAG, REMOTE));
+    REFUSES(MIRROR_REFUSED_SECTOR_SIZE, mirror_seal(KEYED, ADDRESS, NOTHING, NOTHING, NOTHING, NOTHING));
+    REFUSES(MIRROR_REFUSED_SECTOR_SIZE, mirror_seal(KEYED, ADDRESS, plain, 15, local, 15, TAG, remote, 15));
+    REFUSES(MIRROR_REFUSED_OTHER_LENGTH, mirror_seal(KEYED, ADDRESS, PLAIN, NOTHING, TAG, REMOTE));
+    REFUSES(MIRROR_REFUSED_OTHER_LENGTH, mirror_seal(KEYED, ADDRESS, PLAIN, LOCAL, TAG, remote, 16));
+    REFUSES(MIRROR_REFUSED_OTHER_LENGTH, mirror_seal(KEYED, ADDRESS, PLAIN, LOCAL, tag, 15, REMOTE));
     puts("calls: mirror_seal");
 }
 
@@ -283,7 +304,7 @@ static void seals(void)
 static void judges_damaged(uint8_t *place, uint32_t doubtful)
 {
     place[3] ^= 0x10;
-    GIVES(doubtful, mirror_judge(KEY, ADDRESS, LOCAL, TAG, REMOTE, OUT));
+    GIVES(doubtful, mirror_judge(KEYED, ADDRESS, LOCAL, TAG, REMOTE, OUT));
     DUE(out, plain, SIZE);
     NO_MORE("mirror_judge");
     place[3] ^= 0x10;
@@ -291,51 +312,58 @@ static void judges_damaged(uint8_t *place, uint32_t doubtful)
 
 static void judges(void)
 {
-    GIVES(MIRROR_WHOLE, mirror_judge(KEY, ADDRESS, LOCAL, TAG, REMOTE, OUT));
+    GIVES(MIRROR_WHOLE, mirror_judge(KEYED, ADDRESS, LOCAL, TAG, REMOTE, OUT));
     DUE(out, plain, SIZE);
     NO_MORE("mirror_judge");
     judges_damaged(local, MIRROR_DOUBTFUL_LOCAL);
     judges_damaged(tag, MIRROR_DOUBTFUL_TAG);
     judges_damaged(remote, MIRROR_DOUBTFUL_REMOTE);
-    REFUSES(MIRROR_REFUSED_LOST, mirror_judge(KEY, ADDRESS + 1, LOCAL, TAG, REMOTE, OUT));
-    REFUSES(MIRROR_REFUSED_KEY_LENGTH, mirror_judge(NOTHING, ADDRESS, NOTHING, NOTHING, NOTHING, NOTHING));
-    REFUSES(MIRROR_REFUSED_SECTOR_SIZE, mirror_judge(KEY, ADDRESS, NOTHING, TAG, REMOTE, OUT));
-    REFUSES(MIRROR_REFUSED_OTHER_LENGTH, mirror_judge(KEY, ADDRESS, LOCAL, NOTHING, REMOTE, OUT));
-    REFUSES(MIRROR_REFUSED_OTHER_LENGTH, mirror_judge(KEY, ADDRESS, LOCAL, TAG, NOTHING, OUT));
-    REFUSES(MIRROR_REFUSED_OTHER_LENGTH, mirror_judge(KEY, ADDRESS, LOCAL, TAG, REMOTE, NOTHING));
+    REFUSES(MIRROR_REFUSED_LOST, mirror_judge(KEYED, ADDRESS + 1, LOCAL, TAG, REMOTE, OUT));
+    REFUSES(MIRROR_REFUSED_LOST, mirror_judge(KEY, VOLUME + 1, ADDRESS, LOCAL, TAG, REMOTE, OUT));
+    REFUSES(MIRROR_REFUSED_LOST, mirror_judge(KEY, 0, ADDRESS, LOCAL, TAG, REMOTE, OUT));
+    REFUSES(MIRROR_REFUSED_LOST, mirror_judge(KEY, ADDRESS, VOLUME, LOCAL, TAG, REMOTE, OUT));
+    REFUSES(MIRROR_REFUSED_KEY_LENGTH, mirror_judge(NO_KEY, ADDRESS, NOTHING, NOTHING, NOTHING, NOTHING));
+    REFUSES(MIRROR_REFUSED_SECTOR_SIZE, mirror_judge(KEYED, ADDRESS, NOTHING, TAG, REMOTE, OUT));
+    REFUSES(MIRROR_REFUSED_OTHER_LENGTH, mirror_judge(KEYED, ADDRESS, LOCAL, NOTHING, REMOTE, OUT));
+    REFUSES(MIRROR_REFUSED_OTHER_LENGTH, mirror_judge(KEYED, ADDRESS, LOCAL, TAG, NOTHING, OUT));
+    REFUSES(MIRROR_REFUSED_OTHER_LENGTH, mirror_judge(KEYED, ADDRESS, LOCAL, TAG, REMOTE, NOTHING));
     puts("calls: mirror_judge");
 }
 
 static void opens(void)
 {
-    GIVES(MIRROR_DONE, mirror_open(KEY, ADDRESS, MIRROR_SIDE_LOCAL, LOCAL, TAG, OUT));
+    GIVES(MIRROR_DONE, mirror_open(KEYED, ADDRESS, MIRROR_SIDE_LOCAL, LOCAL, TAG, OUT));
     DUE(out, plain, SIZE);
     NO_MORE("mirror_open");
-    GIVES(MIRROR_DONE, mirror_open(KEY, ADDRESS, MIRROR_SIDE_REMOTE, REMOTE, TAG, OUT));
+    GIVES(MIRROR_DONE, mirror_open(KEYED, ADDRESS, MIRROR_SIDE_REMOTE, REMOTE, TAG, OUT));
     DUE(out, plain, SIZE);
     NO_MORE("mirror_open");
-    REFUSES(MIRROR_REFUSED_NONE_FITS, mirror_open(KEY, ADDRESS, MIRROR_SIDE_REMOTE, LOCAL, TAG, OUT));
-    REFUSES(MIRROR_REFUSED_UNKNOWN_SIDE, mirror_open(KEY, ADDRESS, 2, LOCAL, TAG, OUT));
-    REFUSES(MIRROR_REFUSED_OTHER_LENGTH, mirror_open(KEY, ADDRESS, 2, LOCAL, NOTHING, OUT));
-    REFUSES(MIRROR_REFUSED_OTHER_LENGTH, mirror_open(KEY, ADDRESS, 2, LOCAL, TAG, NOTHING));
-    REFUSES(MIRROR_REFUSED_SECTOR_SIZE, mirror_open(KEY, ADDRESS, 2, NOTHING, NOTHING, NOTHING));
-    REFUSES(MIRROR_REFUSED_KEY_LENGTH, mirror_open(NOTHING, ADDRESS, 2, NOTHING, NOTHING, NOTHING));
+    REFUSES(MIRROR_REFUSED_NONE_FITS, mirror_open(KEYED, ADDRESS, MIRROR_SIDE_REMOTE, LOCAL, TAG, OUT));
+    REFUSES(MIRROR_REFUSED_NONE_FITS, mirror_open(KEY, 0, ADDRESS, MIRROR_SIDE_LOCAL, LOCAL, TAG, OUT));
+    REFUSES(MIRROR_REFUSED_NONE_FITS, mirror_open(KEY, ADDRESS, VOLUME, MIRROR_SIDE_REMOTE, REMOTE, TAG, OUT));
+    REFUSES(MIRROR_REFUSED_UNKNOWN_SIDE, mirror_open(KEYED, ADDRESS, 2, LOCAL, TAG, OUT));
+    REFUSES(MIRROR_REFUSED_OTHER_LENGTH, mirror_open(KEYED, ADDRESS, 2, LOCAL, NOTHING, OUT));
+    REFUSES(MIRROR_REFUSED_OTHER_LENGTH, mirror_open(KEYED, ADDRESS, 2, LOCAL, TAG, NOTHING));
+    REFUSES(MIRROR_REFUSED_SECTOR_SIZE, mirror_open(KEYED, ADDRESS, 2, NOTHING, NOTHING, NOTHING));
+    REFUSES(MIRROR_REFUSED_KEY_LENGTH, mirror_open(NO_KEY, ADDRESS, 2, NOTHING, NOTHING, NOTHING));
     puts("calls: mirror_open");
 }
 
 static void rebuilds(void)
 {
-    GIVES(MIRROR_DONE, mirror_rebuild(KEY, ADDRESS, MIRROR_SIDE_LOCAL, LOCAL, TAG, OUT));
-    DUE(out, STORED_REMOTE, SIZE);
+    GIVES(MIRROR_DONE, mirror_rebuild(KEYED, ADDRESS, MIRROR_SIDE_LOCAL, LOCAL, TAG, OUT));
+    DUE(out, STORED.remote, SIZE);
     NO_MORE("mirror_rebuild");
-    GIVES(MIRROR_DONE, mirror_rebuild(KEY, ADDRESS, MIRROR_SIDE_REMOTE, REMOTE, TAG, OUT));
-    DUE(out, STORED_LOCAL, SIZE);
+    GIVES(MIRROR_DONE, mirror_rebuild(KEYED, ADDRESS, MIRROR_SIDE_REMOTE, REMOTE, TAG, OUT));
+    DUE(out, STORED.local, SIZE);
     NO_MORE("mirror_rebuild");
-    REFUSES(MIRROR_REFUSED_NONE_FITS, mirror_rebuild(KEY, ADDRESS, MIRROR_SIDE_LOCAL, REMOTE, TAG, OUT));
-    REFUSES(MIRROR_REFUSED_UNKNOWN_SIDE, mirror_rebuild(KEY, ADDRESS, 0xffffffff, LOCAL, TAG, OUT));
-    REFUSES(MIRROR_REFUSED_OTHER_LENGTH, mirror_rebuild(KEY, ADDRESS, 2, LOCAL, TAG, out, 16));
-    REFUSES(MIRROR_REFUSED_SECTOR_SIZE, mirror_rebuild(KEY, ADDRESS, 2, NOTHING, TAG, OUT));
-    REFUSES(MIRROR_REFUSED_KEY_LENGTH, mirror_rebuild(NOTHING, ADDRESS, 2, NOTHING, TAG, OUT));
+    REFUSES(MIRROR_REFUSED_NONE_FITS, mirror_rebuild(KEYED, ADDRESS, MIRROR_SIDE_LOCAL, REMOTE, TAG, OUT));
+    REFUSES(MIRROR_REFUSED_NONE_FITS, mirror_rebuild(KEY, 0, ADDRESS, MIRROR_SIDE_LOCAL, LOCAL, TAG, OUT));
+    REFUSES(MIRROR_REFUSED_NONE_FITS, mirror_rebuild(KEY, ADDRESS, VOLUME, MIRROR_SIDE_REMOTE, REMOTE, TAG, OUT));
+    REFUSES(MIRROR_REFUSED_UNKNOWN_SIDE, mirror_rebuild(KEYED, ADDRESS, 0xffffffff, LOCAL, TAG, OUT));
+    REFUSES(MIRROR_REFUSED_OTHER_LENGTH, mirror_rebuild(KEYED, ADDRESS, 2, LOCAL, TAG, out, 16));
+    REFUSES(MIRROR_REFUSED_SECTOR_SIZE, mirror_rebuild(KEYED, ADDRESS, 2, NOTHING, TAG, OUT));
+    REFUSES(MIRROR_REFUSED_KEY_LENGTH, mirror_rebuild(NO_KEY, ADDRESS, 2, NOTHING, TAG, OUT));
     puts("calls: mirror_rebuild");
 }
 
@@ -358,12 +386,12 @@ static void combines(void)
 static void clashes(void)
 {
     clash(ADDRESS);
-    REFUSES(MIRROR_REFUSED_CLASHING, mirror_judge(KEY, ADDRESS, LOCAL, TAG, REMOTE, OUT));
-    GIVES(MIRROR_DONE, mirror_open(KEY, ADDRESS, MIRROR_SIDE_LOCAL, LOCAL, TAG, OUT));
+    REFUSES(MIRROR_REFUSED_CLASHING, mirror_judge(KEYED, ADDRESS, LOCAL, TAG, REMOTE, OUT));
+    GIVES(MIRROR_DONE, mirror_open(KEYED, ADDRESS, MIRROR_SIDE_LOCAL, LOCAL, TAG, OUT));
     DUE(out, plain, SIZE);
     NO_MORE("mirror_open of a clashing sector");
     plain[SIZE - 1] = 0;
-    GIVES(MIRROR_DONE, mirror_open(KEY, ADDRESS, MIRROR_SIDE_REMOTE, REMOTE, TAG, OUT));
+    GIVES(MIRROR_DONE, mirror_open(KEYED, ADDRESS, MIRROR_SIDE_REMOTE, REMOTE, TAG, OUT));
     DUE(out, plain, SIZE);
     NO_MORE("mirror_open of a clashing sector");
 }
@@ -373,14 +401,14 @@ static void at_size(size_t size)
 {
     uint8_t *p = heap(size), *l = heap(size), *r = heap(size), *o = heap(size);
     fill(p, size, 9);
-    answers(MIRROR_DONE, mirror_seal(KEY, 0, p, size, l, size, TAG, r, size), __LINE__, "sealing another size");
-    answers(MIRROR_WHOLE, mirror_judge(KEY, 0, l, size, TAG, r, size, o, size), __LINE__, "judging another size");
+    answers(MIRROR_DONE, mirror_seal(KEYED, 0, p, size, l, size, TAG, r, size), __LINE__, "sealing another size");
+    answers(MIRROR_WHOLE, mirror_judge(KEYED, 0, l, size, TAG, r, size, o, size), __LINE__, "judging another size");
     check(memcmp(o, p, size) == 0, __LINE__, "judging another size", "gives another plaintext");
     memset(o, 0, size);
     answers(MIRROR_DONE, mirror_combine(l, size, r, size, o, size), __LINE__, "combining another size");
     check(memcmp(o, p, size) == 0, __LINE__, "combining another size", "gives another plaintext");
     r[size - 1] ^= 1;
-    answers(MIRROR_DOUBTFUL_REMOTE, mirror_judge(KEY, 0, l, size, TAG, r, size, o, size), __LINE__, "judging another size");
+    answers(MIRROR_DOUBTFUL_REMOTE, mirror_judge(KEYED, 0, l, size, TAG, r, size, o, size), __LINE__, "judging another size");
     free(p);
     free(l);
     free(r);
@@ -389,7 +417,7 @@ static void at_size(size_t size)
 
 /* ---- a volume */
 
-#define VOLUME KEY, SIZE, COUNT
+#define SHAPED KEYED, SIZE, COUNT
 #define IMAGES LOCALS, TAGS, REMOTES
 
 /* The parts of a sector are due as local, tag and remote are. */
@@ -414,19 +442,19 @@ static void blanks(void)
     memset(plain, 0, SIZE);
     for (number = 0; number < COUNT; number++) {
         sealed(number);
-        GIVES(MIRROR_DONE, mirror_blank(VOLUME, number, IMAGES));
+        GIVES(MIRROR_DONE, mirror_blank(SHAPED, number, IMAGES));
         due_part(number);
         NO_MORE("mirror_blank");
     }
-    REFUSES(MIRROR_REFUSED_SECTOR_NUMBER, mirror_blank(VOLUME, COUNT, IMAGES));
-    REFUSES(MIRROR_REFUSED_VOLUME_SHAPE, mirror_blank(KEY, SIZE, 0, COUNT, NOTHING, NOTHING, NOTHING));
-    REFUSES(MIRROR_REFUSED_VOLUME_SHAPE, mirror_blank(KEY, SIZE, MIRROR_VOLUME_SECTORS_MAX + 1, 0, IMAGES));
-    REFUSES(MIRROR_REFUSED_VOLUME_SHAPE, mirror_blank(VOLUME, COUNT, NOTHING, TAGS, REMOTES));
-    REFUSES(MIRROR_REFUSED_VOLUME_SHAPE, mirror_blank(VOLUME, COUNT, LOCALS, NOTHING, REMOTES));
-    REFUSES(MIRROR_REFUSED_VOLUME_SHAPE, mirror_blank(VOLUME, COUNT, LOCALS, TAGS, remotes, SIZE));
-    REFUSES(MIRROR_REFUSED_SECTOR_SIZE, mirror_blank(KEY, 15, 0, COUNT, IMAGES));
-    REFUSES(MIRROR_REFUSED_SECTOR_SIZE, mirror_blank(KEY, 4112, 0, COUNT, IMAGES));
-    REFUSES(MIRROR_REFUSED_KEY_LENGTH, mirror_blank(NOTHING, 15, 0, COUNT, NOTHING, NOTHING, NOTHING));
+    REFUSES(MIRROR_REFUSED_SECTOR_NUMBER, mirror_blank(SHAPED, COUNT, IMAGES));
+    REFUSES(MIRROR_REFUSED_VOLUME_SHAPE, mirror_blank(KEYED, SIZE, 0, COUNT, NOTHING, NOTHING, NOTHING));
+    REFUSES(MIRROR_REFUSED_VOLUME_SHAPE, mirror_blank(KEYED, SIZE, MIRROR_VOLUME_SECTORS_MAX + 1, 0, IMAGES));
+    REFUSES(MIRROR_REFUSED_VOLUME_SHAPE, mirror_blank(SHAPED, COUNT, NOTHING, TAGS, REMOTES));
+    REFUSES(MIRROR_REFUSED_VOLUME_SHAPE, mirror_blank(SHAPED, COUNT, LOCALS, NOTHING, REMOTES));
+    REFUSES(MIRROR_REFUSED_VOLUME_SHAPE, mirror_blank(SHAPED, COUNT, LOCALS, TAGS, remotes, SIZE));
+    REFUSES(MIRROR_REFUSED_SECTOR_SIZE, mirror_blank(KEYED, 15, 0, COUNT, IMAGES));
+    REFUSES(MIRROR_REFUSED_SECTOR_SIZE, mirror_blank(KEYED, 4112, 0, COUNT, IMAGES));
+    REFUSES(MIRROR_REFUSED_KEY_LENGTH, mirror_blank(NO_KEY, 15, 0, COUNT, NOTHING, NOTHING, NOTHING));
     puts("calls: mirror_blank");
 }
 
@@ -437,23 +465,23 @@ static void stages(void)
     memset(zeros, 0, SIZE);
     fill(plain, SIZE, 0x40);
     sealed(1);
-    REFUSES(MIRROR_REFUSED_STAGE_ORDER, mirror_second_stage(VOLUME, 1, PLAIN, IMAGES));
-    REFUSES(MIRROR_REFUSED_STAGE_ORDER, mirror_third_stage(VOLUME, 1, PLAIN, IMAGES));
-    GIVES(MIRROR_DONE, mirror_first_stage(VOLUME, 1, PLAIN, IMAGES));
+    REFUSES(MIRROR_REFUSED_STAGE_ORDER, mirror_second_stage(SHAPED, 1, PLAIN, IMAGES));
+    REFUSES(MIRROR_REFUSED_STAGE_ORDER, mirror_third_stage(SHAPED, 1, PLAIN, IMAGES));
+    GIVES(MIRROR_DONE, mirror_first_stage(SHAPED, 1, PLAIN, IMAGES));
     DUE(locals + SIZE, local, SIZE);
     NO_MORE("mirror_first_stage");
-    REFUSES(MIRROR_REFUSED_STAGE_ORDER, mirror_first_stage(VOLUME, 1, PLAIN, IMAGES));
-    REFUSES(MIRROR_REFUSED_STAGE_ORDER, mirror_third_stage(VOLUME, 1, PLAIN, IMAGES));
-    GIVES(MIRROR_DOUBTFUL_LOCAL, mirror_read(VOLUME, 1, IMAGES, OUT));
+    REFUSES(MIRROR_REFUSED_STAGE_ORDER, mirror_first_stage(SHAPED, 1, PLAIN, IMAGES));
+    REFUSES(MIRROR_REFUSED_STAGE_ORDER, mirror_third_stage(SHAPED, 1, PLAIN, IMAGES));
+    GIVES(MIRROR_DOUBTFUL_LOCAL, mirror_read(SHAPED, 1, IMAGES, OUT));
     DUE(out, zeros, SIZE);
     NO_MORE("mirror_read after the first stage");
-    GIVES(MIRROR_DONE, mirror_second_stage(VOLUME, 1, PLAIN, IMAGES));
+    GIVES(MIRROR_DONE, mirror_second_stage(SHAPED, 1, PLAIN, IMAGES));
     DUE(tags + MIRROR_TAG_BYTES, tag, MIRROR_TAG_BYTES);
     NO_MORE("mirror_second_stage");
-    GIVES(MIRROR_DOUBTFUL_REMOTE, mirror_read(VOLUME, 1, IMAGES, OUT));
+    GIVES(MIRROR_DOUBTFUL_REMOTE, mirror_read(SHAPED, 1, IMAGES, OUT));
     DUE(out, plain, SIZE);
     NO_MORE("mirror_read after the second stage");
-    GIVES(MIRROR_DONE, mirror_third_stage(VOLUME, 1, PLAIN, IMAGES));
+    GIVES(MIRROR_DONE, mirror_third_stage(SHAPED, 1, PLAIN, IMAGES));
     DUE(remotes + SIZE, remote, SIZE);
     NO_MORE("mirror_third_stage");
 }
@@ -461,9 +489,9 @@ static void stages(void)
 /* Reads and mends of sector 1 refuse while its write stands at a clash, and a first stage is not due. */
 static void clashes_between(void)
 {
-    REFUSES(MIRROR_REFUSED_CLASHING, mirror_read(VOLUME, 1, IMAGES, OUT));
-    REFUSES(MIRROR_REFUSED_CLASHING, mirror_mend(VOLUME, 1, IMAGES));
-    REFUSES(MIRROR_REFUSED_STAGE_ORDER, mirror_first_stage(VOLUME, 1, PLAIN, IMAGES));
+    REFUSES(MIRROR_REFUSED_CLASHING, mirror_read(SHAPED, 1, IMAGES, OUT));
+    REFUSES(MIRROR_REFUSED_CLASHING, mirror_mend(SHAPED, 1, IMAGES));
+    REFUSES(MIRROR_REFUSED_STAGE_ORDER, mirror_first_stage(SHAPED, 1, PLAIN, IMAGES));
 }
 
 /* A write of (h, 1) over (h, 0), which have one tag: between the stages both fit two places. The next stage is due all the same. */
@@ -475,14 +503,14 @@ static void stages_of_equal_tags(void)
     put_part(1);
     plain[SIZE - 1] = 1;
     sealed(1);
-    GIVES(MIRROR_DONE, mirror_first_stage(VOLUME, 1, PLAIN, IMAGES));
+    GIVES(MIRROR_DONE, mirror_first_stage(SHAPED, 1, PLAIN, IMAGES));
     DUE(locals + SIZE, local, SIZE);
     NO_MORE("mirror_first_stage into a clash");
     clashes_between();
-    GIVES(MIRROR_DONE, mirror_second_stage(VOLUME, 1, PLAIN, IMAGES));
+    GIVES(MIRROR_DONE, mirror_second_stage(SHAPED, 1, PLAIN, IMAGES));
     NO_MORE("mirror_second_stage of the same tag");
     clashes_between();
-    GIVES(MIRROR_DONE, mirror_third_stage(VOLUME, 1, PLAIN, IMAGES));
+    GIVES(MIRROR_DONE, mirror_third_stage(SHAPED, 1, PLAIN, IMAGES));
     DUE(remotes + SIZE, remote, SIZE);
     NO_MORE("mirror_third_stage out of a clash");
 }
@@ -491,17 +519,17 @@ typedef uint32_t (*Stage)(size_t, size_t, size_t, size_t, const uint8_t *, size_
 
 static uint32_t first(size_t key_len, size_t s, size_t n, size_t number, const uint8_t *p, size_t length)
 {
-    return mirror_first_stage(key, key_len, s, n, number, p, length, IMAGES);
+    return mirror_first_stage(key, key_len, VOLUME, s, n, number, p, length, IMAGES);
 }
 
 static uint32_t second(size_t key_len, size_t s, size_t n, size_t number, const uint8_t *p, size_t length)
 {
-    return mirror_second_stage(key, key_len, s, n, number, p, length, IMAGES);
+    return mirror_second_stage(key, key_len, VOLUME, s, n, number, p, length, IMAGES);
 }
 
 static uint32_t third(size_t key_len, size_t s, size_t n, size_t number, const uint8_t *p, size_t length)
 {
-    return mirror_third_stage(key, key_len, s, n, number, p, length, IMAGES);
+    return mirror_third_stage(key, key_len, VOLUME, s, n, number, p, length, IMAGES);
 }
 
 static void stage_refuses(Stage stage, const char *name)
@@ -517,25 +545,41 @@ static void stage_refuses(Stage stage, const char *name)
 
 static void reads(void)
 {
-    GIVES(MIRROR_WHOLE, mirror_read(VOLUME, 1, IMAGES, OUT));
+    GIVES(MIRROR_WHOLE, mirror_read(SHAPED, 1, IMAGES, OUT));
     DUE(out, plain, SIZE);
     NO_MORE("mirror_read");
-    REFUSES(MIRROR_REFUSED_OTHER_LENGTH, mirror_read(VOLUME, 1, IMAGES, NOTHING));
-    REFUSES(MIRROR_REFUSED_SECTOR_NUMBER, mirror_read(VOLUME, COUNT, IMAGES, NOTHING));
-    REFUSES(MIRROR_REFUSED_VOLUME_SHAPE, mirror_read(VOLUME, COUNT, NOTHING, NOTHING, NOTHING, NOTHING));
-    REFUSES(MIRROR_REFUSED_SECTOR_SIZE, mirror_read(KEY, 24, COUNT, COUNT, IMAGES, NOTHING));
-    REFUSES(MIRROR_REFUSED_KEY_LENGTH, mirror_read(NOTHING, 24, COUNT, COUNT, IMAGES, NOTHING));
+    REFUSES(MIRROR_REFUSED_OTHER_LENGTH, mirror_read(SHAPED, 1, IMAGES, NOTHING));
+    REFUSES(MIRROR_REFUSED_SECTOR_NUMBER, mirror_read(SHAPED, COUNT, IMAGES, NOTHING));
+    REFUSES(MIRROR_REFUSED_VOLUME_SHAPE, mirror_read(SHAPED, COUNT, NOTHING, NOTHING, NOTHING, NOTHING));
+    REFUSES(MIRROR_REFUSED_SECTOR_SIZE, mirror_read(KEYED, 24, COUNT, COUNT, IMAGES, NOTHING));
+    REFUSES(MIRROR_REFUSED_KEY_LENGTH, mirror_read(NO_KEY, 24, COUNT, COUNT, IMAGES, NOTHING));
     puts("calls: mirror_read");
+}
+
+/* Sector 1, which holds `plain`, and the whole volume under another number than they were sealed under. */
+static void under_another_number(uint64_t number)
+{
+    const uint64_t all_lost[MIRROR_COUNTS_LENGTH] = {0, 0, 0, 3, 0};
+    const uint32_t all_three[COUNT] = {0, 1, 2};
+    REFUSES(MIRROR_REFUSED_LOST, mirror_read(KEY, number, SIZE, COUNT, 1, IMAGES, OUT));
+    REFUSES(MIRROR_REFUSED_LOST, mirror_mend(KEY, number, SIZE, COUNT, 1, IMAGES));
+    REFUSES(MIRROR_REFUSED_STAGE_ORDER, mirror_first_stage(KEY, number, SIZE, COUNT, 1, PLAIN, IMAGES));
+    REFUSES(MIRROR_REFUSED_STAGE_ORDER, mirror_second_stage(KEY, number, SIZE, COUNT, 1, PLAIN, IMAGES));
+    REFUSES(MIRROR_REFUSED_STAGE_ORDER, mirror_third_stage(KEY, number, SIZE, COUNT, 1, PLAIN, IMAGES));
+    GIVES(MIRROR_DONE, mirror_survey(KEY, number, SIZE, COUNT, IMAGES, LIST, counts));
+    DUE(count_bytes, all_lost, sizeof all_lost);
+    DUE(list_bytes, all_three, sizeof all_three);
+    NO_MORE("mirror_survey under another number");
 }
 
 /* Damages one place of sector 1, whose parts local, tag and remote have, and mends it. */
 static void mends_damaged(uint8_t *place, uint32_t doubtful)
 {
     place[5] ^= 0x80;
-    GIVES(doubtful, mirror_mend(VOLUME, 1, IMAGES));
+    GIVES(doubtful, mirror_mend(SHAPED, 1, IMAGES));
     due_part(1);
     NO_MORE("mirror_mend");
-    GIVES(MIRROR_WHOLE, mirror_mend(VOLUME, 1, IMAGES));
+    GIVES(MIRROR_WHOLE, mirror_mend(SHAPED, 1, IMAGES));
     NO_MORE("mirror_mend of a whole sector");
 }
 
@@ -544,10 +588,10 @@ static void mends(void)
     mends_damaged(locals + SIZE, MIRROR_DOUBTFUL_LOCAL);
     mends_damaged(tags + MIRROR_TAG_BYTES, MIRROR_DOUBTFUL_TAG);
     mends_damaged(remotes + SIZE, MIRROR_DOUBTFUL_REMOTE);
-    REFUSES(MIRROR_REFUSED_SECTOR_NUMBER, mirror_mend(VOLUME, COUNT, IMAGES));
-    REFUSES(MIRROR_REFUSED_VOLUME_SHAPE, mirror_mend(VOLUME, COUNT, NOTHING, NOTHING, NOTHING));
-    REFUSES(MIRROR_REFUSED_SECTOR_SIZE, mirror_mend(KEY, 8, COUNT, COUNT, IMAGES));
-    REFUSES(MIRROR_REFUSED_KEY_LENGTH, mirror_mend(key, 16, 8, COUNT, COUNT, IMAGES));
+    REFUSES(MIRROR_REFUSED_SECTOR_NUMBER, mirror_mend(SHAPED, COUNT, IMAGES));
+    REFUSES(MIRROR_REFUSED_VOLUME_SHAPE, mirror_mend(SHAPED, COUNT, NOTHING, NOTHING, NOTHING));
+    REFUSES(MIRROR_REFUSED_SECTOR_SIZE, mirror_mend(KEYED, 8, COUNT, COUNT, IMAGES));
+    REFUSES(MIRROR_REFUSED_KEY_LENGTH, mirror_mend(key, 16, VOLUME, 8, COUNT, COUNT, IMAGES));
     puts("calls: mirror_mend");
 }
 
@@ -559,17 +603,17 @@ static void damage_all(void)
     tags[MIRROR_TAG_BYTES] ^= 1;
     locals[2 * SIZE] ^= 1;
     remotes[3 * SIZE - 1] ^= 1;
-    REFUSES(MIRROR_REFUSED_CLASHING, mirror_read(VOLUME, 0, IMAGES, OUT));
-    REFUSES(MIRROR_REFUSED_CLASHING, mirror_mend(VOLUME, 0, IMAGES));
-    REFUSES(MIRROR_REFUSED_LOST, mirror_read(VOLUME, 2, IMAGES, OUT));
-    REFUSES(MIRROR_REFUSED_LOST, mirror_mend(VOLUME, 2, IMAGES));
+    REFUSES(MIRROR_REFUSED_CLASHING, mirror_read(SHAPED, 0, IMAGES, OUT));
+    REFUSES(MIRROR_REFUSED_CLASHING, mirror_mend(SHAPED, 0, IMAGES));
+    REFUSES(MIRROR_REFUSED_LOST, mirror_read(SHAPED, 2, IMAGES, OUT));
+    REFUSES(MIRROR_REFUSED_LOST, mirror_mend(SHAPED, 2, IMAGES));
 }
 
 /* So many entries of the list, from `at` on, are sectors of which a read answers this. Gives the entry behind them. */
 static size_t listed(size_t at, uint64_t count, uint32_t answer, int line)
 {
     for (; count > 0; count--, at++) {
-        answers(answer, mirror_read(VOLUME, list[at], IMAGES, OUT), line, "reading a listed sector");
+        answers(answer, mirror_read(SHAPED, list[at], IMAGES, OUT), line, "reading a listed sector");
     }
     return at;
 }
@@ -588,18 +632,18 @@ static void surveys(void)
     const uint64_t all_whole[MIRROR_COUNTS_LENGTH] = {3, 0, 0, 0, 1000}, one_whole[MIRROR_COUNTS_LENGTH] = {1, 0, 1, 1, 333};
     const uint64_t none_whole[MIRROR_COUNTS_LENGTH] = {0, 1, 1, 1, 0};
     const uint32_t all_three[COUNT] = {2, 0, 1}, two[2] = {2, 0}; /* lost, clashing, doubtful */
-    GIVES(MIRROR_DONE, mirror_survey(VOLUME, IMAGES, LIST, counts));
+    GIVES(MIRROR_DONE, mirror_survey(SHAPED, IMAGES, LIST, counts));
     DUE(count_bytes, all_whole, sizeof all_whole);
     NO_MORE("mirror_survey of whole sectors");
     damage_all();
-    GIVES(MIRROR_DONE, mirror_survey(VOLUME, IMAGES, list, ENTRIES, counts));
+    GIVES(MIRROR_DONE, mirror_survey(SHAPED, IMAGES, list, ENTRIES, counts));
     DUE(count_bytes, none_whole, sizeof none_whole);
     DUE(list_bytes, all_three, sizeof all_three);
     NO_MORE("mirror_survey of damaged sectors");
     kinds_by_counts();
-    answers(MIRROR_DOUBTFUL_TAG, mirror_mend(VOLUME, 1, IMAGES), __LINE__, "mending sector 1");
+    answers(MIRROR_DOUBTFUL_TAG, mirror_mend(SHAPED, 1, IMAGES), __LINE__, "mending sector 1");
     memset(list, 0x5a, ENTRIES * sizeof(uint32_t));
-    GIVES(MIRROR_DONE, mirror_survey(VOLUME, IMAGES, LIST, counts));
+    GIVES(MIRROR_DONE, mirror_survey(SHAPED, IMAGES, LIST, counts));
     DUE(count_bytes, one_whole, sizeof one_whole);
     DUE(list_bytes, two, sizeof two);
     NO_MORE("mirror_survey after a mend");
@@ -607,11 +651,11 @@ static void surveys(void)
     check(counts[MIRROR_COUNT_WHOLE] == 1 && counts[MIRROR_COUNT_DOUBTFUL] == 0 && counts[MIRROR_COUNT_CLASHING] == 1 &&
               counts[MIRROR_COUNT_LOST] == 1 && counts[MIRROR_COUNT_HEALTH] == 333,
           __LINE__, "mirror_survey", "the counts stand at other places");
-    REFUSES(MIRROR_REFUSED_LIST_LENGTH, mirror_survey(VOLUME, IMAGES, NOTHING, counts));
-    REFUSES(MIRROR_REFUSED_LIST_LENGTH, mirror_survey(VOLUME, IMAGES, list, COUNT - 1, counts));
-    REFUSES(MIRROR_REFUSED_VOLUME_SHAPE, mirror_survey(VOLUME, NOTHING, NOTHING, NOTHING, NOTHING, counts));
-    REFUSES(MIRROR_REFUSED_SECTOR_SIZE, mirror_survey(KEY, 33, COUNT, IMAGES, NOTHING, counts));
-    REFUSES(MIRROR_REFUSED_KEY_LENGTH, mirror_survey(NOTHING, 33, COUNT, IMAGES, NOTHING, counts));
+    REFUSES(MIRROR_REFUSED_LIST_LENGTH, mirror_survey(SHAPED, IMAGES, NOTHING, counts));
+    REFUSES(MIRROR_REFUSED_LIST_LENGTH, mirror_survey(SHAPED, IMAGES, list, COUNT - 1, counts));
+    REFUSES(MIRROR_REFUSED_VOLUME_SHAPE, mirror_survey(SHAPED, NOTHING, NOTHING, NOTHING, NOTHING, counts));
+    REFUSES(MIRROR_REFUSED_SECTOR_SIZE, mirror_survey(KEYED, 33, COUNT, IMAGES, NOTHING, counts));
+    REFUSES(MIRROR_REFUSED_KEY_LENGTH, mirror_survey(NO_KEY, 33, COUNT, IMAGES, NOTHING, counts));
     puts("calls: mirror_survey");
 }
 
@@ -662,6 +706,9 @@ int main(void)
     stage_refuses(second, "mirror_second_stage");
     stage_refuses(third, "mirror_third_stage");
     reads();
+    under_another_number(0);
+    under_another_number(VOLUME + 1);
+    puts("calls: under another number");
     mends();
     surveys();
     every_answer();

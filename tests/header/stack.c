@@ -24,18 +24,21 @@ static size_t size;
 static uint32_t list[1], side, answer;
 static uint64_t counts[MIRROR_COUNTS_LENGTH];
 
-static void seal(void) { answer = mirror_seal(key, sizeof key, 0, plain, size, local, size, tag, TAG, remote, size); }
-static void judge(void) { answer = mirror_judge(key, sizeof key, 0, local, size, tag, TAG, remote, size, out, size); }
-static void open(void) { answer = mirror_open(key, sizeof key, 0, side, side ? remote : local, size, tag, TAG, out, size); }
-static void rebuild(void) { answer = mirror_rebuild(key, sizeof key, 0, side, side ? remote : local, size, tag, TAG, out, size); }
+/* With the volume's number. */
+#define KEYED key, sizeof key, UINT64_MAX
+
+static void seal(void) { answer = mirror_seal(KEYED, 0, plain, size, local, size, tag, TAG, remote, size); }
+static void judge(void) { answer = mirror_judge(KEYED, 0, local, size, tag, TAG, remote, size, out, size); }
+static void open(void) { answer = mirror_open(KEYED, 0, side, side ? remote : local, size, tag, TAG, out, size); }
+static void rebuild(void) { answer = mirror_rebuild(KEYED, 0, side, side ? remote : local, size, tag, TAG, out, size); }
 static void combine(void) { answer = mirror_combine(local, size, remote, size, out, size); }
-static void blank(void) { answer = mirror_blank(key, sizeof key, size, 1, 0, local, size, tag, TAG, remote, size); }
-static void first(void) { answer = mirror_first_stage(key, sizeof key, size, 1, 0, plain, size, local, size, tag, TAG, remote, size); }
-static void second(void) { answer = mirror_second_stage(key, sizeof key, size, 1, 0, plain, size, local, size, tag, TAG, remote, size); }
-static void third(void) { answer = mirror_third_stage(key, sizeof key, size, 1, 0, plain, size, local, size, tag, TAG, remote, size); }
-static void read(void) { answer = mirror_read(key, sizeof key, size, 1, 0, local, size, tag, TAG, remote, size, out, size); }
-static void mend(void) { answer = mirror_mend(key, sizeof key, size, 1, 0, local, size, tag, TAG, remote, size); }
-static void survey(void) { answer = mirror_survey(key, sizeof key, size, 1, local, size, tag, TAG, remote, size, list, 1, counts); }
+static void blank(void) { answer = mirror_blank(KEYED, size, 1, 0, local, size, tag, TAG, remote, size); }
+static void first(void) { answer = mirror_first_stage(KEYED, size, 1, 0, plain, size, local, size, tag, TAG, remote, size); }
+static void second(void) { answer = mirror_second_stage(KEYED, size, 1, 0, plain, size, local, size, tag, TAG, remote, size); }
+static void third(void) { answer = mirror_third_stage(KEYED, size, 1, 0, plain, size, local, size, tag, TAG, remote, size); }
+static void read(void) { answer = mirror_read(KEYED, size, 1, 0, local, size, tag, TAG, remote, size, out, size); }
+static void mend(void) { answer = mirror_mend(KEYED, size, 1, 0, local, size, tag, TAG, remote, size); }
+static void survey(void) { answer = mirror_survey(KEYED, size, 1, local, size, tag, TAG, remote, size, list, 1, counts); }
 
 typedef struct {
     const char *name;

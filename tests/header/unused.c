@@ -5,18 +5,18 @@ void drop_all(const struct mirror_volume *v, uint8_t *b, uint32_t *list, uint64_
 
 void drop_all(const struct mirror_volume *v, uint8_t *b, uint32_t *list, uint64_t *counts)
 {
-    mirror_seal(b, 0, 0, b, 0, b, 0, b, 0, b, 0);
-    mirror_judge(b, 0, 0, b, 0, b, 0, b, 0, b, 0);
-    mirror_open(b, 0, 0, 0, b, 0, b, 0, b, 0);
-    mirror_rebuild(b, 0, 0, 0, b, 0, b, 0, b, 0);
+    mirror_seal(b, 0, 0, 0, b, 0, b, 0, b, 0, b, 0);
+    mirror_judge(b, 0, 0, 0, b, 0, b, 0, b, 0, b, 0);
+    mirror_open(b, 0, 0, 0, 0, b, 0, b, 0, b, 0);
+    mirror_rebuild(b, 0, 0, 0, 0, b, 0, b, 0, b, 0);
     mirror_combine(b, 0, b, 0, b, 0);
-    mirror_blank(b, 0, 0, 0, 0, b, 0, b, 0, b, 0);
-    mirror_first_stage(b, 0, 0, 0, 0, b, 0, b, 0, b, 0, b, 0);
-    mirror_second_stage(b, 0, 0, 0, 0, b, 0, b, 0, b, 0, b, 0);
-    mirror_third_stage(b, 0, 0, 0, 0, b, 0, b, 0, b, 0, b, 0);
-    mirror_read(b, 0, 0, 0, 0, b, 0, b, 0, b, 0, b, 0);
-    mirror_mend(b, 0, 0, 0, 0, b, 0, b, 0, b, 0);
-    mirror_survey(b, 0, 0, 0, b, 0, b, 0, b, 0, list, 0, counts);
+    mirror_blank(b, 0, 0, 0, 0, 0, b, 0, b, 0, b, 0);
+    mirror_first_stage(b, 0, 0, 0, 0, 0, b, 0, b, 0, b, 0, b, 0);
+    mirror_second_stage(b, 0, 0, 0, 0, 0, b, 0, b, 0, b, 0, b, 0);
+    mirror_third_stage(b, 0, 0, 0, 0, 0, b, 0, b, 0, b, 0, b, 0);
+    mirror_read(b, 0, 0, 0, 0, 0, b, 0, b, 0, b, 0, b, 0);
+    mirror_mend(b, 0, 0, 0, 0, 0, b, 0, b, 0, b, 0);
+    mirror_survey(b, 0, 0, 0, 0, b, 0, b, 0, b, 0, list, 0, counts);
     mirror_volume_blank(v, 0);
     mirror_volume_first_stage(v, 0, b, 0);
     mirror_volume_second_stage(v, 0, b, 0);

@@ -9,7 +9,7 @@
 #include <stdlib.h>
 #include <string.h>
 
-enum { SIZE = 32, COUNT = 3, NUMBER = 1, FEWER = 16 };
+enum { VOLUME = 5, SIZE = 32, COUNT = 3, NUMBER = 1, FEWER = 16 };
 
 /* ---- the buffers: as they are before, as the call leaves them, and as the function over the struct does */
 
@@ -52,8 +52,8 @@ static void copy(const Buffers *from, const Buffers *to)
 
 static struct mirror_volume volume_in(const Buffers *b)
 {
-    struct mirror_volume v = {b->at[KEY],  MIRROR_KEY_BYTES, SIZE,          COUNT,       b->at[LOCAL], LENGTHS[LOCAL],
-                              b->at[TAGS], LENGTHS[TAGS],    b->at[REMOTE], LENGTHS[REMOTE]};
+    struct mirror_volume v = {b->at[KEY],     MIRROR_KEY_BYTES, VOLUME,        SIZE,          COUNT,          b->at[LOCAL],
+                              LENGTHS[LOCAL], b->at[TAGS],      LENGTHS[TAGS], b->at[REMOTE], LENGTHS[REMOTE]};
     return v;
 }
 
@@ -72,7 +72,7 @@ typedef struct {
     size_t number, plain_len, out_len, list_len;
 } Others;
 
-#define NAMED v.key, v.key_len, v.s, v.n
+#define NAMED v.key, v.key_len, v.volume, v.s, v.n
 #define IMAGES v.local, v.local_len, v.tags, v.tags_len, v.remote, v.remote_len
 #define PLAINTEXT b->at[PLAIN], o->plain_len
 #define OUTPUT b->at[OUT], o->out_len
@@ -120,7 +120,7 @@ static uint32_t by_struct(int which, const struct mirror_volume *v, const Others
 
 /* ---- what is wrong: nothing, a field of the struct, or another argument */
 
-enum { NOTHING, KEY_LEN, S, NO_SECTORS, MORE_SECTORS, LOCAL_LEN, TAGS_LEN, REMOTE_LEN, FIELDS };
+enum { NOTHING, KEY_LEN, NO_NUMBER, S, NO_SECTORS, MORE_SECTORS, LOCAL_LEN, TAGS_LEN, REMOTE_LEN, FIELDS };
 enum { OTHER_NUMBER = 1, PLAIN_LEN, OUT_LEN, LIST_LEN, OTHERS };
 
 static void spoil(struct mirror_volume *v, int field)
@@ -128,6 +128,9 @@ static void spoil(struct mirror_volume *v, int field)
     switch (field) {
     case KEY_LEN:
         v->key_len = FEWER;
+        break;
+    case NO_NUMBER: /* as where a program does not name the field */
+        v->volume = 0;
         break;
     case S:
         v->s = SIZE - 1;
@@ -259,6 +262,40 @@ static void compare_all(int which)
     }
 }
 
+/* A state in which the call under VOLUME is accepted, and what it answers there under 0. */
+static const struct {
+    int state;
+    uint32_t under_0;
+} ACCEPTED[CALLS] = {{WHOLE, MIRROR_DONE},
+                     {WHOLE, MIRROR_REFUSED_STAGE_ORDER},
+                     {FIRST_DONE, MIRROR_REFUSED_STAGE_ORDER},
+                     {SECOND_DONE, MIRROR_REFUSED_STAGE_ORDER},
+                     {WHOLE, MIRROR_REFUSED_LOST},
+                     {WHOLE, MIRROR_REFUSED_LOST},
+                     {WHOLE, MIRROR_DONE}};
+
+/* A function that handed on 0 in place of the struct's number would do what the call does under 0. That is something else. */
+static void hands_on(int which)
+{
+    const Others o = others(NOTHING);
+    struct mirror_volume v = volume_in(&called), w = volume_in(&structured);
+    uint32_t answer;
+    int differs;
+    size_t i;
+    make(&before, ACCEPTED[which].state);
+    copy(&before, &called);
+    copy(&before, &structured);
+    v.volume = 0;
+    check(by_call(which, v, &o, &called) == ACCEPTED[which].under_0, __LINE__, NAMES[which], "the call answers another number under 0");
+    answer = by_struct(which, &w, &o, &structured);
+    check(answer == MIRROR_DONE, __LINE__, NAMES[which], "is refused under the volume's number");
+    differs = answer != ACCEPTED[which].under_0;
+    for (i = 0; i < BUFFERS; i++) {
+        differs = differs || memcmp(called.at[i], structured.at[i], LENGTHS[i]) != 0;
+    }
+    check(differs, __LINE__, NAMES[which], "does what the call does under 0");
+}
+
 /* Each function has met all that its call can answer. The lists end with zeros: done, or whole. */
 static void each_answer(void)
 {
@@ -290,6 +327,9 @@ void volumes(void)
         }
     }
     each_answer();
+    for (which = 0; which < CALLS; which++) {
+        hands_on(which);
+    }
     give_back(&before);
     give_back(&called);
     give_back(&structured);

@@ -8,7 +8,7 @@
 #include <stdlib.h>
 #include <string.h>
 
-enum { SIZE = 64, COUNT = 64, TAG = MIRROR_TAG_BYTES, KINDS = 4 };
+enum { VOLUME = 1, SIZE = 64, COUNT = 64, TAG = MIRROR_TAG_BYTES, KINDS = 4 };
 
 static const char *const kinds[KINDS + 1] = {"whole", "lost", "clashing", "doubtful", "mixed"};
 static const size_t places[KINDS] = {MIRROR_COUNT_WHOLE, MIRROR_COUNT_LOST, MIRROR_COUNT_CLASHING, MIRROR_COUNT_DOUBTFUL};
@@ -20,7 +20,7 @@ static uint64_t counts[MIRROR_COUNTS_LENGTH], due[MIRROR_COUNTS_LENGTH];
 static void seal(size_t i)
 {
     const uint32_t answer =
-        mirror_seal(key, sizeof key, i, plain, SIZE, local + i * SIZE, SIZE, tags + i * TAG, TAG, remote + i * SIZE, SIZE);
+        mirror_seal(key, sizeof key, VOLUME, i, plain, SIZE, local + i * SIZE, SIZE, tags + i * TAG, TAG, remote + i * SIZE, SIZE);
     if (answer != MIRROR_DONE) {
         fprintf(stderr, "work: sector %lu cannot be sealed: %s\n", (unsigned long)i, mirror_text(answer));
         exit(1);
@@ -57,8 +57,8 @@ static void make(size_t i, const char *kind)
 
 static void survey(void)
 {
-    const uint32_t answer = mirror_survey(key, sizeof key, SIZE, COUNT, local, sizeof local, tags, sizeof tags, remote, sizeof remote, list,
-                                          COUNT, counts);
+    const uint32_t answer = mirror_survey(key, sizeof key, VOLUME, SIZE, COUNT, local, sizeof local, tags, sizeof tags, remote,
+                                          sizeof remote, list, COUNT, counts);
     if (answer != MIRROR_DONE || memcmp(counts, due, sizeof due) != 0) {
         fprintf(stderr, "work: the survey answers %x (hexadecimal), or gives other counts than the volume was made with\n",
                 (unsigned)answer);
