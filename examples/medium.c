@@ -18,14 +18,16 @@
 #include <string.h>
 #include <unistd.h>
 
-enum { SIZE = 512, COUNT = 8, NUMBER = 2 };
+enum { VOLUME = 1, SIZE = 512, COUNT = 8, NUMBER = 2 };
 enum { LOCAL, TAG, REMOTE, PLACES };
 
-/* A real key is 32 random bytes. */
+/* A real key is 32 random bytes. VOLUME is the volume's number: each volume under a key has its own. Like key, SIZE and COUNT it is not
+ * stored in the images: whoever opens the volume again has to give the same. */
 static const uint8_t key[MIRROR_KEY_BYTES] = "an example key: h, and then K..";
 static uint8_t local[COUNT * SIZE], tags[COUNT * MIRROR_TAG_BYTES], remote[COUNT * SIZE];
 static const struct mirror_volume volume = {.key = key,
                                             .key_len = sizeof key,
+                                            .volume = VOLUME,
                                             .s = SIZE,
                                             .n = COUNT,
                                             .local = local,
