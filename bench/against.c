@@ -21,9 +21,16 @@ typedef struct {
 
 // ---- The calls. Another one is two functions and a line in the table; where the releases take other arguments, the two differ.
 
+// A release before 0.3.0 takes no volume's number. What it judges has the number 0, and so has every volume here.
+#if BEFORE_MIRROR_VERSION >= 3000
+#define BEFORE_KEYED v.key, v.key_len, v.volume
+#else
+#define BEFORE_KEYED v.key, v.key_len
+#endif
+
 static void survey_before(result *r) {
-    r->answer = before_mirror_survey(v.key, v.key_len, v.s, v.n, v.local, v.local_len, v.tags, v.tags_len, v.remote, v.remote_len, r->list,
-                                     v.n, r->counts);
+    r->answer = before_mirror_survey(BEFORE_KEYED, v.s, v.n, v.local, v.local_len, v.tags, v.tags_len, v.remote, v.remote_len, r->list, v.n,
+                                     r->counts);
 }
 static void survey_now(result *r) { r->answer = mirror_volume_survey(&v, r->list, v.n, r->counts); }
 
@@ -60,7 +67,8 @@ static void fill(uint8_t *to, size_t n) {
 
 static void seal(size_t i, const uint8_t *plain) {
     size_t at = i * v.s;
-    must(!mirror_seal(key, sizeof key, i, plain, v.s, v.local + at, v.s, v.tags + i * 16, 16, v.remote + at, v.s), 1, "cannot seal");
+    must(!mirror_seal(key, sizeof key, v.volume, i, plain, v.s, v.local + at, v.s, v.tags + i * 16, 16, v.remote + at, v.s), 1,
+         "cannot seal");
 }
 
 // Every third sector is damaged, and the kinds of damage take turns: random bytes at local, tag, remote, or both sides (lost); and two

@@ -38,7 +38,7 @@ macro_rules! calls_of {
     ($name:ident, $module:path) => {
         fn $name(call: Call, v: &mut Volume, number: usize) -> u32 {
             use $module as calls;
-            let (s, n) = (v.size, v.count);
+            let (w, s, n) = (v.number, v.size, v.count);
             let (side, tag) = (part(number, s), part(number, 16));
             let (key, local, tags, remote) = (&v.key, &mut v.local, &mut v.tags, &mut v.remote);
             let out = &mut v.out;
@@ -46,17 +46,17 @@ macro_rules! calls_of {
                 Call::Seal => {
                     let (plain, local) = (&v.plain[side.clone()], &mut local[side.clone()]);
                     let (tag, remote) = (&mut tags[tag], &mut remote[side]);
-                    calls::seal(key, number as u64, plain, local, tag, remote)
+                    calls::seal(key, w, number as u64, plain, local, tag, remote)
                 }
                 Call::Judge => {
                     let (local, remote) = (&local[side.clone()], &remote[side]);
-                    calls::judge(key, number as u64, local, &tags[tag], remote, out)
+                    calls::judge(key, w, number as u64, local, &tags[tag], remote, out)
                 }
-                Call::Read => calls::read(key, s, n, number, local, tags, remote, out),
-                Call::Mend => calls::mend(key, s, n, number, local, tags, remote),
+                Call::Read => calls::read(key, w, s, n, number, local, tags, remote, out),
+                Call::Mend => calls::mend(key, w, s, n, number, local, tags, remote),
                 Call::Survey => {
                     let (list, counts) = (&mut v.list, &mut v.counts);
-                    calls::survey(key, s, n, local, tags, remote, list, counts)
+                    calls::survey(key, w, s, n, local, tags, remote, list, counts)
                 }
             }
         }
@@ -70,34 +70,37 @@ calls_of!(c, crate::plain);
 mod rust_calls {
     #![allow(clippy::too_many_arguments)]
     use super::answer_number;
-    use reference::volume;
+    use reference::volume as of_reference;
 
     pub fn seal(
         key: &[u8],
+        volume: u64,
         address: u64,
         plain: &[u8],
         local: &mut [u8],
         tag: &mut [u8],
         remote: &mut [u8],
     ) -> u32 {
-        let answer = reference::seal::seal(key, address, plain, local, remote, tag);
+        let answer = reference::seal::seal(key, volume, address, plain, local, remote, tag);
         u32::from(answer_number(&answer))
     }
 
     pub fn judge(
         key: &[u8],
+        volume: u64,
         address: u64,
         local: &[u8],
         tag: &[u8],
         remote: &[u8],
         out: &mut [u8],
     ) -> u32 {
-        let answer = reference::seal::judge(key, address, local, tag, remote, out);
+        let answer = reference::seal::judge(key, volume, address, local, tag, remote, out);
         u32::from(answer_number(&answer))
     }
 
     pub fn read(
         key: &[u8],
+        volume: u64,
         s: usize,
         n: usize,
         number: usize,
@@ -106,12 +109,13 @@ mod rust_calls {
         remote: &[u8],
         out: &mut [u8],
     ) -> u32 {
-        let answer = volume::read(key, s, n, local, tags, remote, number, out);
+        let answer = of_reference::read(key, volume, s, n, local, tags, remote, number, out);
         u32::from(answer_number(&answer))
     }
 
     pub fn mend(
         key: &[u8],
+        volume: u64,
         s: usize,
         n: usize,
         number: usize,
@@ -119,12 +123,13 @@ mod rust_calls {
         tags: &mut [u8],
         remote: &mut [u8],
     ) -> u32 {
-        let answer = volume::mend(key, s, n, local, tags, remote, number);
+        let answer = of_reference::mend(key, volume, s, n, local, tags, remote, number);
         u32::from(answer_number(&answer))
     }
 
     pub fn survey(
         key: &[u8],
+        volume: u64,
         s: usize,
         n: usize,
         local: &[u8],
@@ -133,7 +138,7 @@ mod rust_calls {
         list: &mut [u32],
         counts: &mut [u64; 5],
     ) -> u32 {
-        match volume::survey(key, s, n, local, tags, remote, list) {
+        match of_reference::survey(key, volume, s, n, local, tags, remote, list) {
             Ok(found) => {
                 *counts = found.numbers();
                 0

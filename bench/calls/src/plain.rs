@@ -19,16 +19,16 @@ struct SliceMut {
 #[rustfmt::skip]
 extern "C" {
     fn plain_start();
-    fn plain_seal(key: Slice, address: u64, plain: Slice, local: SliceMut, remote: SliceMut, tag: SliceMut) -> u32;
-    fn plain_judge(key: Slice, address: u64, local: Slice, tag: Slice, remote: Slice, out: SliceMut) -> u32;
+    fn plain_seal(key: Slice, volume: u64, address: u64, plain: Slice, local: SliceMut, remote: SliceMut, tag: SliceMut) -> u32;
+    fn plain_judge(key: Slice, volume: u64, address: u64, local: Slice, tag: Slice, remote: Slice, out: SliceMut) -> u32;
     fn plain_read(
-        key: Slice, s: usize, n: usize, number: usize, local: Slice, tags: Slice, remote: Slice, out: SliceMut,
+        key: Slice, volume: u64, s: usize, n: usize, number: usize, local: Slice, tags: Slice, remote: Slice, out: SliceMut,
     ) -> u32;
     fn plain_mend(
-        key: Slice, s: usize, n: usize, number: usize, local: SliceMut, tags: SliceMut, remote: SliceMut,
+        key: Slice, volume: u64, s: usize, n: usize, number: usize, local: SliceMut, tags: SliceMut, remote: SliceMut,
     ) -> u32;
     fn plain_survey(
-        key: Slice, s: usize, n: usize, local: Slice, tags: Slice, remote: Slice,
+        key: Slice, volume: u64, s: usize, n: usize, local: Slice, tags: Slice, remote: Slice,
         list: *mut u32, list_length: usize, counts: *mut [u64; 5],
     ) -> u32;
 }
@@ -59,6 +59,7 @@ pub fn start() {
 
 pub fn seal(
     key: &[u8],
+    volume: u64,
     address: u64,
     plain: &[u8],
     local: &mut [u8],
@@ -66,11 +67,22 @@ pub fn seal(
     remote: &mut [u8],
 ) -> u32 {
     let (key, plain) = (shared(key), shared(plain));
-    unsafe { plain_seal(key, address, plain, lent(local), lent(remote), lent(tag)) }
+    unsafe {
+        plain_seal(
+            key,
+            volume,
+            address,
+            plain,
+            lent(local),
+            lent(remote),
+            lent(tag),
+        )
+    }
 }
 
 pub fn judge(
     key: &[u8],
+    volume: u64,
     address: u64,
     local: &[u8],
     tag: &[u8],
@@ -78,11 +90,12 @@ pub fn judge(
     out: &mut [u8],
 ) -> u32 {
     let (key, local, tag, remote) = (shared(key), shared(local), shared(tag), shared(remote));
-    unsafe { plain_judge(key, address, local, tag, remote, lent(out)) }
+    unsafe { plain_judge(key, volume, address, local, tag, remote, lent(out)) }
 }
 
 pub fn read(
     key: &[u8],
+    volume: u64,
     s: usize,
     n: usize,
     number: usize,
@@ -92,11 +105,12 @@ pub fn read(
     out: &mut [u8],
 ) -> u32 {
     let (key, local, tags, remote) = (shared(key), shared(local), shared(tags), shared(remote));
-    unsafe { plain_read(key, s, n, number, local, tags, remote, lent(out)) }
+    unsafe { plain_read(key, volume, s, n, number, local, tags, remote, lent(out)) }
 }
 
 pub fn mend(
     key: &[u8],
+    volume: u64,
     s: usize,
     n: usize,
     number: usize,
@@ -105,11 +119,12 @@ pub fn mend(
     remote: &mut [u8],
 ) -> u32 {
     let (local, tags, remote) = (lent(local), lent(tags), lent(remote));
-    unsafe { plain_mend(shared(key), s, n, number, local, tags, remote) }
+    unsafe { plain_mend(shared(key), volume, s, n, number, local, tags, remote) }
 }
 
 pub fn survey(
     key: &[u8],
+    volume: u64,
     s: usize,
     n: usize,
     local: &[u8],
@@ -120,5 +135,5 @@ pub fn survey(
 ) -> u32 {
     let (key, local, tags, remote) = (shared(key), shared(local), shared(tags), shared(remote));
     let (list, length) = (list.as_mut_ptr(), list.len());
-    unsafe { plain_survey(key, s, n, local, tags, remote, list, length, counts) }
+    unsafe { plain_survey(key, volume, s, n, local, tags, remote, list, length, counts) }
 }

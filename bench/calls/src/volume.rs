@@ -11,6 +11,10 @@ use reference::volume::part;
 /// one is seen if it does.
 const FILL: u8 = 0x5a;
 
+/// The volume's number. Its bytes differ, so that all sides must agree on their
+/// order.
+const NUMBER: u64 = 0x0123_4567_89ab_cdef;
+
 /// What the sectors of a volume are.
 #[derive(Clone, Copy)]
 pub enum State {
@@ -27,6 +31,8 @@ pub enum State {
 #[derive(Clone, PartialEq, Eq)]
 pub struct Volume {
     pub key: Vec<u8>,
+    /// The volume's number.
+    pub number: u64,
     pub size: usize,
     pub count: usize,
     /// The plaintexts of all sectors, one behind the other.
@@ -49,6 +55,7 @@ impl Volume {
         }
         let mut volume = Volume {
             key,
+            number: NUMBER,
             size,
             count,
             plain: rng.bytes(count * size),
@@ -71,8 +78,8 @@ impl Volume {
     /// The three places of one sector in a state.
     fn sector(&self, rng: &mut Rng, number: usize, state: State) -> Sealed {
         let plain = &self.plain[part(number, self.size)];
-        let address = number as u64;
-        let mut sector = sealed(&self.key, address, plain);
+        let sealed = |plain: &[u8]| sealed(&self.key, self.number, number as u64, plain);
+        let mut sector = sealed(plain);
         match state {
             State::Whole | State::Mixed => {}
             State::Doubtful(place) => rng.fill(sector.place_mut(place)),
@@ -82,8 +89,8 @@ impl Volume {
             }
             State::Clashing => {
                 let (one, other) = pair(&self.key, plain);
-                sector = sealed(&self.key, address, &one);
-                sector.remote = sealed(&self.key, address, &other).remote;
+                sector = sealed(&one);
+                sector.remote = sealed(&other).remote;
             }
         }
         sector
