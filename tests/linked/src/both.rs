@@ -39,7 +39,8 @@ impl Calls for Both {
 /// What is in the counts before a survey.
 const FILL: u64 = 0x5a5a;
 
-type SurveyCall = fn(&[u8], usize, usize, &[u8], &[u8], &[u8], &mut [u32], &mut [u64; 5]) -> u32;
+type SurveyCall =
+    fn(&[u8], u64, usize, usize, &[u8], &[u8], &[u8], &mut [u32], &mut [u64; 5]) -> u32;
 
 fn library_survey(
     survey: SurveyCall,
@@ -48,23 +49,33 @@ fn library_survey(
     list: &mut [u32],
     counts: &mut [u64; 5],
 ) -> u32 {
-    let Given { key, size, count } = given;
+    let Given {
+        ref key,
+        volume,
+        size,
+        count,
+    } = *given;
     let Images { local, tag, remote } = images;
-    survey(key, *size, *count, local, tag, remote, list, counts)
+    survey(key, volume, size, count, local, tag, remote, list, counts)
 }
 
 fn library_run(request: &Request, images: &mut Images, out: &mut [u8]) -> u32 {
-    let Given { key, size, count } = &request.given;
-    let (s, n, i) = (*size, *count, request.number);
+    let Given {
+        ref key,
+        volume: v,
+        size: s,
+        count: n,
+    } = request.given;
+    let i = request.number;
     let Images { local, tag, remote } = images;
     let plain = &request.plaintext;
     match request.kind {
-        Kind::Blank => crate::blank(key, s, n, i, local, tag, remote),
-        Kind::First => crate::first_stage(key, s, n, i, plain, local, tag, remote),
-        Kind::Second => crate::second_stage(key, s, n, i, plain, local, tag, remote),
-        Kind::Third => crate::third_stage(key, s, n, i, plain, local, tag, remote),
-        Kind::Mend => crate::mend(key, s, n, i, local, tag, remote),
-        Kind::Read => crate::read(key, s, n, i, local, tag, remote, out),
+        Kind::Blank => crate::blank(key, v, s, n, i, local, tag, remote),
+        Kind::First => crate::first_stage(key, v, s, n, i, plain, local, tag, remote),
+        Kind::Second => crate::second_stage(key, v, s, n, i, plain, local, tag, remote),
+        Kind::Third => crate::third_stage(key, v, s, n, i, plain, local, tag, remote),
+        Kind::Mend => crate::mend(key, v, s, n, i, local, tag, remote),
+        Kind::Read => crate::read(key, v, s, n, i, local, tag, remote, out),
     }
 }
 

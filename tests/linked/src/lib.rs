@@ -1,5 +1,5 @@
 //! The compiled library's calls through the Rust wrapper, each with the number
-//! of its answer.
+//! of its answer. `volume` is the volume's number, and `number` a sector's.
 
 // The calls take what the requirement names, one parameter for each.
 #![allow(clippy::too_many_arguments)]
@@ -43,31 +43,36 @@ fn judged(answer: Result<Verdict, Refusal>) -> u32 {
 
 pub fn seal(
     key: &[u8],
+    volume: u64,
     address: u64,
     plain: &[u8],
     local: &mut [u8],
     tag: &mut [u8],
     remote: &mut [u8],
 ) -> u32 {
-    done(mirror::seal(key, address, plain, local, tag, remote))
+    done(mirror::seal(
+        key, volume, address, plain, local, tag, remote,
+    ))
 }
 
 pub fn judge(
     key: &[u8],
+    volume: u64,
     address: u64,
     local: &[u8],
     tag: &[u8],
     remote: &[u8],
     out: &mut [u8],
 ) -> u32 {
-    judged(mirror::judge(key, address, local, tag, remote, out))
+    judged(mirror::judge(key, volume, address, local, tag, remote, out))
 }
 
-type Opening = fn(&[u8], u64, Side, &[u8], &[u8], &mut [u8]) -> Result<(), Refusal>;
+type Opening = fn(&[u8], u64, u64, Side, &[u8], &[u8], &mut [u8]) -> Result<(), Refusal>;
 
 type UnsafeOpening = unsafe extern "C" fn(
     *const u8,
     usize,
+    u64,
     u64,
     u32,
     *const u8,
@@ -83,6 +88,7 @@ fn with_side(
     named: Opening,
     unnamed: UnsafeOpening,
     key: &[u8],
+    volume: u64,
     address: u64,
     side: u32,
     sector: &[u8],
@@ -90,14 +96,15 @@ fn with_side(
     out: &mut [u8],
 ) -> u32 {
     match side {
-        0 => done(named(key, address, Side::Local, sector, tag, out)),
-        1 => done(named(key, address, Side::Remote, sector, tag, out)),
+        0 => done(named(key, volume, address, Side::Local, sector, tag, out)),
+        1 => done(named(key, volume, address, Side::Remote, sector, tag, out)),
         // SAFETY: each pointer and length is that of one slice, which lives
         // through the call, and the writable one overlaps no other.
         _ => unsafe {
             unnamed(
                 key.as_ptr(),
                 key.len(),
+                volume,
                 address,
                 side,
                 sector.as_ptr(),
@@ -111,13 +118,22 @@ fn with_side(
     }
 }
 
-pub fn open(key: &[u8], address: u64, side: u32, sector: &[u8], tag: &[u8], out: &mut [u8]) -> u32 {
+pub fn open(
+    key: &[u8],
+    volume: u64,
+    address: u64,
+    side: u32,
+    sector: &[u8],
+    tag: &[u8],
+    out: &mut [u8],
+) -> u32 {
     let (named, unnamed) = (mirror::open, ffi::mirror_open);
-    with_side(named, unnamed, key, address, side, sector, tag, out)
+    with_side(named, unnamed, key, volume, address, side, sector, tag, out)
 }
 
 pub fn rebuild(
     key: &[u8],
+    volume: u64,
     address: u64,
     side: u32,
     sector: &[u8],
@@ -125,7 +141,7 @@ pub fn rebuild(
     out: &mut [u8],
 ) -> u32 {
     let (named, unnamed) = (mirror::rebuild, ffi::mirror_rebuild);
-    with_side(named, unnamed, key, address, side, sector, tag, out)
+    with_side(named, unnamed, key, volume, address, side, sector, tag, out)
 }
 
 pub fn combine(local: &[u8], remote: &[u8], out: &mut [u8]) -> u32 {
@@ -134,6 +150,7 @@ pub fn combine(local: &[u8], remote: &[u8], out: &mut [u8]) -> u32 {
 
 pub fn blank(
     key: &[u8],
+    volume: u64,
     s: usize,
     n: usize,
     number: usize,
@@ -141,11 +158,12 @@ pub fn blank(
     tags: &mut [u8],
     remote: &mut [u8],
 ) -> u32 {
-    done(Volume::new(key, s, n, local, tags, remote).blank(number))
+    done(Volume::new(key, volume, s, n, local, tags, remote).blank(number))
 }
 
 pub fn first_stage(
     key: &[u8],
+    volume: u64,
     s: usize,
     n: usize,
     number: usize,
@@ -154,11 +172,12 @@ pub fn first_stage(
     tags: &mut [u8],
     remote: &mut [u8],
 ) -> u32 {
-    done(Volume::new(key, s, n, local, tags, remote).first_stage(number, plain))
+    done(Volume::new(key, volume, s, n, local, tags, remote).first_stage(number, plain))
 }
 
 pub fn second_stage(
     key: &[u8],
+    volume: u64,
     s: usize,
     n: usize,
     number: usize,
@@ -167,11 +186,12 @@ pub fn second_stage(
     tags: &mut [u8],
     remote: &mut [u8],
 ) -> u32 {
-    done(Volume::new(key, s, n, local, tags, remote).second_stage(number, plain))
+    done(Volume::new(key, volume, s, n, local, tags, remote).second_stage(number, plain))
 }
 
 pub fn third_stage(
     key: &[u8],
+    volume: u64,
     s: usize,
     n: usize,
     number: usize,
@@ -180,11 +200,12 @@ pub fn third_stage(
     tags: &mut [u8],
     remote: &mut [u8],
 ) -> u32 {
-    done(Volume::new(key, s, n, local, tags, remote).third_stage(number, plain))
+    done(Volume::new(key, volume, s, n, local, tags, remote).third_stage(number, plain))
 }
 
 pub fn read(
     key: &[u8],
+    volume: u64,
     s: usize,
     n: usize,
     number: usize,
@@ -193,11 +214,12 @@ pub fn read(
     remote: &[u8],
     out: &mut [u8],
 ) -> u32 {
-    judged(Volume::new(key, s, n, local, tags, remote).read(number, out))
+    judged(Volume::new(key, volume, s, n, local, tags, remote).read(number, out))
 }
 
 pub fn mend(
     key: &[u8],
+    volume: u64,
     s: usize,
     n: usize,
     number: usize,
@@ -205,13 +227,14 @@ pub fn mend(
     tags: &mut [u8],
     remote: &mut [u8],
 ) -> u32 {
-    judged(Volume::new(key, s, n, local, tags, remote).mend(number))
+    judged(Volume::new(key, volume, s, n, local, tags, remote).mend(number))
 }
 
 /// The counts are whole, doubtful, clashing, lost and the health. The numbers
 /// that the wrapper gives must be the front of the list.
 pub fn survey(
     key: &[u8],
+    volume: u64,
     s: usize,
     n: usize,
     local: &[u8],
@@ -221,7 +244,7 @@ pub fn survey(
     counts: &mut [u64; 5],
 ) -> u32 {
     let start = list.as_ptr();
-    match Volume::new(key, s, n, local, tags, remote).survey(list) {
+    match Volume::new(key, volume, s, n, local, tags, remote).survey(list) {
         Ok((found, listed)) => {
             assert_eq!((listed.as_ptr(), listed.len()), (start, n - found.whole));
             let found = [
@@ -242,6 +265,7 @@ pub fn survey(
 /// call leaves in the caller's counts shows only here.
 pub fn survey_without_wrapper(
     key: &[u8],
+    volume: u64,
     s: usize,
     n: usize,
     local: &[u8],
@@ -257,6 +281,7 @@ pub fn survey_without_wrapper(
         ffi::mirror_survey(
             key.as_ptr(),
             key.len(),
+            volume,
             s,
             n,
             local.as_ptr(),

@@ -23,6 +23,8 @@ enum Parameter {
     /// The number of sectors, with every length that follows from it.
     CountOfAll,
     Key,
+    /// The volume's number: no call refuses it, but a sector may not fit it.
+    Volume,
     Side,
     Size,
     Count,
@@ -43,7 +45,7 @@ type Fault = (Parameter, usize);
 
 /// What can be wrong with every call on a volume.
 const OF_VOLUME: &[Parameter] = &[
-    Contents, SizeOfAll, CountOfAll, Key, Size, Count, Local, Tag, Remote,
+    Contents, SizeOfAll, CountOfAll, Key, Volume, Size, Count, Local, Tag, Remote,
 ];
 
 /// Sizes about the bounds, and lengths for lent parts.
@@ -79,9 +81,11 @@ const CALLS: [(Call, &[u32]); 12] = [
 fn parameters(call: Call) -> Vec<Parameter> {
     let of_volume = |more: &[Parameter]| [OF_VOLUME, more].concat();
     match call {
-        Call::Seal => vec![SizeOfAll, Key, Plain, Local, Tag, Remote],
-        Call::Judge => vec![Contents, SizeOfAll, Key, Local, Tag, Remote, Out],
-        Call::Open | Call::Rebuild => vec![Contents, SizeOfAll, Key, Side, Sector, Tag, Out],
+        Call::Seal => vec![SizeOfAll, Key, Volume, Plain, Local, Tag, Remote],
+        Call::Judge => vec![Contents, SizeOfAll, Key, Volume, Local, Tag, Remote, Out],
+        Call::Open | Call::Rebuild => {
+            vec![Contents, SizeOfAll, Key, Volume, Side, Sector, Tag, Out]
+        }
         Call::Combine => vec![SizeOfAll, Local, Remote, Out],
         Call::Blank | Call::Mend => of_volume(&[Number]),
         Call::First | Call::Second | Call::Third => of_volume(&[Number, Plain]),
@@ -100,6 +104,10 @@ fn values(parameter: Parameter, right: &Arguments) -> Vec<usize> {
         SizeOfAll => SIZES.to_vec(),
         CountOfAll => vec![0, 1, 2, n - 1, n + 1],
         Key => vec![0, 1, 16, 31, 33, 48, 64],
+        Volume => {
+            let own = right.volume as usize;
+            vec![0, usize::MAX, own ^ 1, own ^ (1 << 63)]
+        }
         Side => vec![0, 1, 2, 255, 256, 257, u32::MAX as usize],
         Size => [sizes_about(s), wide(s), vec![1 << 60, 1 << 63]].concat(),
         Count => {
@@ -151,6 +159,7 @@ fn apply(arguments: &mut Arguments, (parameter, value): Fault) {
             follow(arguments);
         }
         Key => arguments.key.resize(value, FILL),
+        Volume => arguments.volume = value as u64,
         Side => arguments.side = value as u32,
         Size => arguments.s = value,
         Count => arguments.n = value,
@@ -184,8 +193,8 @@ fn spoil(arguments: &mut Arguments, how: usize) {
     if how == 4 {
         let h = to_block(&arguments.key[..16]);
         let (one, other) = blind_pair(h, &to_blocks(&arguments.plain), 1);
-        held = sealed(&arguments.key, arguments.address, &to_bytes(&one));
-        held.remote = sealed(&arguments.key, arguments.address, &to_bytes(&other)).remote;
+        held = sealed_by(arguments, &to_bytes(&one));
+        held.remote = sealed_by(arguments, &to_bytes(&other)).remote;
     }
     for (index, place) in Place::ALL.into_iter().enumerate() {
         if how == index || how == 3 {
@@ -193,6 +202,11 @@ fn spoil(arguments: &mut Arguments, how: usize) {
         }
     }
     hold(arguments, &held);
+}
+
+/// A plaintext's sealing as the arguments say.
+fn sealed_by(arguments: &Arguments, plain: &[u8]) -> Sealed {
+    sealed(&arguments.key, arguments.volume, arguments.address, plain)
 }
 
 /// The sector's three places.
@@ -224,6 +238,7 @@ fn right(rng: &mut Rng, call: Call, s: usize, n: usize) -> Arguments {
     let random = rng.next_u64();
     let mut arguments = Arguments {
         key: rng.bytes(32),
+        volume: rng.next_u64(),
         address: if call.is_on_volume() {
             number as u64
         } else {
@@ -241,7 +256,7 @@ fn right(rng: &mut Rng, call: Call, s: usize, n: usize) -> Arguments {
         list: vec![u32::from(FILL); n],
         ..Arguments::none()
     };
-    let old = sealed(&arguments.key, arguments.address, &rng.bytes(s));
+    let old = sealed_by(&arguments, &rng.bytes(s));
     if let Some(triple) = found_by(call, &arguments, old) {
         hold(&mut arguments, &triple);
     }
@@ -251,7 +266,7 @@ fn right(rng: &mut Rng, call: Call, s: usize, n: usize) -> Arguments {
 /// What the call finds in the sector, if not random bytes. What it has to write
 /// is not there yet.
 fn found_by(call: Call, arguments: &Arguments, old: Sealed) -> Option<Sealed> {
-    let new = sealed(&arguments.key, arguments.address, &arguments.plain);
+    let new = sealed_by(arguments, &arguments.plain);
     match call {
         Call::Seal | Call::Blank => None,
         Call::First => Some(old),

@@ -6,7 +6,7 @@ mod common;
 
 use std::collections::{BTreeMap, BTreeSet};
 
-use common::{rounds, Arguments, Call, Tally, FILL};
+use common::{any_volume, rounds, Arguments, Call, Tally, FILL};
 use reference::answer::Place;
 use reference::collide::{blind_pair, steer};
 use reference::field::{to_block, to_blocks, to_bytes};
@@ -72,10 +72,12 @@ impl Seen {
     }
 }
 
-/// A key and an address, under which sectors of one size are tried.
+/// A key, a volume's number and an address, under which sectors of one size are
+/// tried.
 struct Trial<'a> {
     rng: Rng,
     key: Vec<u8>,
+    volume: u64,
     address: u64,
     size: usize,
     seen: &'a mut Seen,
@@ -90,11 +92,13 @@ impl<'a> Trial<'a> {
             2 => key.fill(0xff),
             _ => {}
         }
+        let volume = any_volume(&mut rng);
         let random = rng.next_u64();
         let address = *rng.pick(&[0, 1, 1 << 63, u64::MAX, random]);
         Trial {
             rng,
             key,
+            volume,
             address,
             size,
             seen,
@@ -135,6 +139,7 @@ impl<'a> Trial<'a> {
     fn arguments(&self) -> Arguments {
         Arguments {
             key: self.key.clone(),
+            volume: self.volume,
             address: self.address,
             out: vec![FILL; self.size],
             ..Arguments::none()
@@ -228,15 +233,24 @@ impl<'a> Trial<'a> {
         }
     }
 
-    /// The sector at another address, and under a key with another half.
+    /// The sector at another address, under another volume's number, with the two
+    /// exchanged, and under a key with another half.
     fn elsewhere(&mut self, sealed: &Sealed) {
-        let (key, address) = (self.key.clone(), self.address);
+        let (key, volume, address) = (self.key.clone(), self.volume, self.address);
+        let due = self.if_h_is_random(6);
         for bit in [0, 31, 32, 63] {
             self.address = address ^ (1 << bit);
-            let due = self.if_h_is_random(6);
             self.judge("another address", sealed, due);
+            self.address = address;
+            self.volume = volume ^ (1 << bit);
+            self.judge("another volume", sealed, due);
+            self.volume = volume;
         }
-        self.address = address;
+        if volume != address {
+            (self.volume, self.address) = (address, volume);
+            self.judge("volume and address exchanged", sealed, due);
+            (self.volume, self.address) = (volume, address);
+        }
         for (half, what) in [(0, "another h"), (16, "another AES key")] {
             self.key[half + self.rng.below(16)] ^= 1 << self.rng.below(8);
             self.judge(what, sealed, None);
@@ -258,10 +272,10 @@ impl<'a> Trial<'a> {
         let (one, other) = blind_pair(self.h(), &blocks, change);
         self.insist_on_clash(&to_bytes(&one), &to_bytes(&other));
         let other = to_blocks(&self.rng.bytes(self.size));
-        match steer(self.h(), self.address, &blocks, &other) {
+        match steer(self.h(), self.volume, self.address, &blocks, &other) {
             Some(other) => self.insist_on_clash(plain, &to_bytes(&other)),
             // Where h^t and the tweak are both zero, their sum may be a factor.
-            None => assert_eq!((self.h(), self.address), (0, 0)),
+            None => assert_eq!((self.h(), self.volume, self.address), (0, 0, 0)),
         }
     }
 

@@ -4,7 +4,7 @@
 
 mod common;
 
-use common::rounds;
+use common::{any_volume, rounds};
 use linked::both::Both;
 use reference::answer::{Place, Refusal};
 use reference::collide::blind_pair;
@@ -16,6 +16,7 @@ use reference::seal::{sealed, Sealed};
 fn volume(rng: &mut Rng, size: usize, count: usize) -> (Given, Images) {
     let given = Given {
         key: rng.bytes(32),
+        volume: any_volume(rng),
         size,
         count,
     };
@@ -59,6 +60,7 @@ fn refusals_in_order() {
             key: vec![1; length],
             size: 15,
             count: 0,
+            ..good
         };
         assert_eq!(survey(&given, &images, 0), Err(Refusal::KeyLength));
     }
@@ -77,7 +79,16 @@ fn the_largest_volume() {
     for number in [0, 1, 40_000, 65_535] {
         let Images { local, tag, remote } = &mut images;
         assert_eq!(
-            linked::blank(&given.key, 16, count, number, local, tag, remote),
+            linked::blank(
+                &given.key,
+                given.volume,
+                16,
+                count,
+                number,
+                local,
+                tag,
+                remote
+            ),
             0
         );
     }
@@ -140,7 +151,7 @@ fn of_equal_tag(rng: &mut Rng, given: &Given) -> (Vec<u8>, Vec<u8>) {
 }
 
 fn sector(rng: &mut Rng, given: &Given, number: usize, kind: Kind) -> Sealed {
-    let sealed = |plaintext: &[u8]| sealed(&given.key, number as u64, plaintext);
+    let sealed = |plaintext: &[u8]| sealed(&given.key, given.volume, number as u64, plaintext);
     let mut held = sealed(&rng.bytes(given.size));
     match kind {
         Kind::Whole => {}
@@ -159,10 +170,15 @@ fn sector(rng: &mut Rng, given: &Given, number: usize, kind: Kind) -> Sealed {
     held
 }
 
-/// A volume whose sectors are of these kinds.
+/// A volume whose sectors are of these kinds, under any number.
 fn of_kinds(rng: &mut Rng, key: Vec<u8>, size: usize, kinds: &[Kind]) -> (Given, Images) {
     let count = kinds.len();
-    let given = Given { key, size, count };
+    let given = Given {
+        key,
+        volume: any_volume(rng),
+        size,
+        count,
+    };
     let (mut local, mut tag, mut remote) = (vec![], vec![], vec![]);
     for (number, &kind) in kinds.iter().enumerate() {
         let held = sector(rng, &given, number, kind);

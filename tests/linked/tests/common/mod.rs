@@ -7,6 +7,7 @@
 use std::collections::{BTreeMap, BTreeSet};
 
 use reference::answer::answer_number;
+use reference::rng::Rng;
 use reference::{seal, volume};
 
 /// What a byte of an output holds before a call, so that a write shows.
@@ -33,6 +34,8 @@ pub enum Call {
 #[derive(Clone, PartialEq, Eq)]
 pub struct Arguments {
     pub key: Vec<u8>,
+    /// The volume's number.
+    pub volume: u64,
     pub address: u64,
     pub side: u32,
     pub s: usize,
@@ -55,6 +58,7 @@ impl Arguments {
     pub fn none() -> Arguments {
         Arguments {
             key: vec![],
+            volume: 0,
             address: 0,
             side: 0,
             s: 0,
@@ -73,7 +77,8 @@ impl Arguments {
 
     /// The numbers and lengths, for a message.
     fn shape(&self) -> String {
-        let numbers = format!("address {}, side {}", self.address, self.side);
+        let under = format!("volume {}, address {}", self.volume, self.address);
+        let numbers = format!("{under}, side {}", self.side);
         let of_volume = format!("s {}, n {}, number {}", self.s, self.n, self.number);
         let lengths = [
             ("key", self.key.len()),
@@ -107,52 +112,52 @@ impl Call {
     }
 
     fn by_library(self, lent: &mut Arguments) -> u32 {
-        let (key, address, side) = (&lent.key, lent.address, lent.side);
+        let (key, v, address, side) = (&lent.key, lent.volume, lent.address, lent.side);
         let (s, n, i) = (lent.s, lent.n, lent.number);
         let (plain, sector, out) = (&lent.plain, &lent.sector, &mut lent.out);
         let (local, tag, remote) = (&mut lent.local, &mut lent.tag, &mut lent.remote);
         let (list, counts) = (&mut lent.list, &mut lent.counts);
         match self {
-            Call::Seal => linked::seal(key, address, plain, local, tag, remote),
-            Call::Judge => linked::judge(key, address, local, tag, remote, out),
-            Call::Open => linked::open(key, address, side, sector, tag, out),
-            Call::Rebuild => linked::rebuild(key, address, side, sector, tag, out),
+            Call::Seal => linked::seal(key, v, address, plain, local, tag, remote),
+            Call::Judge => linked::judge(key, v, address, local, tag, remote, out),
+            Call::Open => linked::open(key, v, address, side, sector, tag, out),
+            Call::Rebuild => linked::rebuild(key, v, address, side, sector, tag, out),
             Call::Combine => linked::combine(local, remote, out),
-            Call::Blank => linked::blank(key, s, n, i, local, tag, remote),
-            Call::First => linked::first_stage(key, s, n, i, plain, local, tag, remote),
-            Call::Second => linked::second_stage(key, s, n, i, plain, local, tag, remote),
-            Call::Third => linked::third_stage(key, s, n, i, plain, local, tag, remote),
-            Call::Read => linked::read(key, s, n, i, local, tag, remote, out),
-            Call::Mend => linked::mend(key, s, n, i, local, tag, remote),
-            Call::Survey => linked::survey(key, s, n, local, tag, remote, list, counts),
+            Call::Blank => linked::blank(key, v, s, n, i, local, tag, remote),
+            Call::First => linked::first_stage(key, v, s, n, i, plain, local, tag, remote),
+            Call::Second => linked::second_stage(key, v, s, n, i, plain, local, tag, remote),
+            Call::Third => linked::third_stage(key, v, s, n, i, plain, local, tag, remote),
+            Call::Read => linked::read(key, v, s, n, i, local, tag, remote, out),
+            Call::Mend => linked::mend(key, v, s, n, i, local, tag, remote),
+            Call::Survey => linked::survey(key, v, s, n, local, tag, remote, list, counts),
         }
     }
 
     fn by_reference(self, lent: &mut Arguments) -> u32 {
-        let (key, address) = (&lent.key, lent.address);
+        let (key, v, address) = (&lent.key, lent.volume, lent.address);
         // A side of more than a byte is as unknown as 255.
         let side = u8::try_from(lent.side).unwrap_or(255);
         let (s, n, i) = (lent.s, lent.n, lent.number);
         let (plain, sector, out) = (&lent.plain, &lent.sector, &mut lent.out);
         let (local, tag, remote) = (&mut lent.local, &mut lent.tag, &mut lent.remote);
         u32::from(match self {
-            Call::Seal => answer_number(&seal::seal(key, address, plain, local, remote, tag)),
-            Call::Judge => answer_number(&seal::judge(key, address, local, tag, remote, out)),
-            Call::Open => answer_number(&seal::open(key, address, side, sector, tag, out)),
-            Call::Rebuild => answer_number(&seal::rebuild(key, address, side, sector, tag, out)),
+            Call::Seal => answer_number(&seal::seal(key, v, address, plain, local, remote, tag)),
+            Call::Judge => answer_number(&seal::judge(key, v, address, local, tag, remote, out)),
+            Call::Open => answer_number(&seal::open(key, v, address, side, sector, tag, out)),
+            Call::Rebuild => answer_number(&seal::rebuild(key, v, address, side, sector, tag, out)),
             Call::Combine => answer_number(&seal::combine(local, remote, out)),
-            Call::Blank => answer_number(&volume::blank(key, s, n, local, tag, remote, i)),
+            Call::Blank => answer_number(&volume::blank(key, v, s, n, local, tag, remote, i)),
             Call::First => answer_number(&volume::first_stage(
-                key, s, n, local, tag, remote, i, plain,
+                key, v, s, n, local, tag, remote, i, plain,
             )),
             Call::Second => answer_number(&volume::second_stage(
-                key, s, n, local, tag, remote, i, plain,
+                key, v, s, n, local, tag, remote, i, plain,
             )),
             Call::Third => answer_number(&volume::third_stage(
-                key, s, n, local, tag, remote, i, plain,
+                key, v, s, n, local, tag, remote, i, plain,
             )),
-            Call::Read => answer_number(&volume::read(key, s, n, local, tag, remote, i, out)),
-            Call::Mend => answer_number(&volume::mend(key, s, n, local, tag, remote, i)),
+            Call::Read => answer_number(&volume::read(key, v, s, n, local, tag, remote, i, out)),
+            Call::Mend => answer_number(&volume::mend(key, v, s, n, local, tag, remote, i)),
             Call::Survey => survey_by_reference(lent),
         })
     }
@@ -163,6 +168,7 @@ fn survey_by_reference(lent: &mut Arguments) -> u8 {
     let (local, tag, remote) = (&lent.local, &lent.tag, &lent.remote);
     match volume::survey(
         &lent.key,
+        lent.volume,
         lent.s,
         lent.n,
         local,
@@ -204,6 +210,12 @@ impl Tally {
         let due: BTreeSet<u32> = answers.iter().copied().collect();
         assert_eq!(seen, due, "answers of {call:?}");
     }
+}
+
+/// A volume's number: a small one, the largest, or any.
+pub fn any_volume(rng: &mut Rng) -> u64 {
+    let random = rng.next_u64();
+    *rng.pick(&[0, 1, u64::MAX, random])
 }
 
 /// How many rounds: the default, or what the variable MIRROR_ROUNDS says.
