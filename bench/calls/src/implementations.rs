@@ -38,7 +38,7 @@ macro_rules! calls_of {
     ($name:ident, $module:path) => {
         fn $name(call: Call, v: &mut Volume, number: usize) -> u32 {
             use $module as calls;
-            let (w, s, n) = (v.number, v.size, v.count);
+            let (volume, s, n) = (v.number, v.size, v.count);
             let (side, tag) = (part(number, s), part(number, 16));
             let (key, local, tags, remote) = (&v.key, &mut v.local, &mut v.tags, &mut v.remote);
             let out = &mut v.out;
@@ -46,17 +46,17 @@ macro_rules! calls_of {
                 Call::Seal => {
                     let (plain, local) = (&v.plain[side.clone()], &mut local[side.clone()]);
                     let (tag, remote) = (&mut tags[tag], &mut remote[side]);
-                    calls::seal(key, w, number as u64, plain, local, tag, remote)
+                    calls::seal(key, volume, number as u64, plain, local, tag, remote)
                 }
                 Call::Judge => {
                     let (local, remote) = (&local[side.clone()], &remote[side]);
-                    calls::judge(key, w, number as u64, local, &tags[tag], remote, out)
+                    calls::judge(key, volume, number as u64, local, &tags[tag], remote, out)
                 }
-                Call::Read => calls::read(key, w, s, n, number, local, tags, remote, out),
-                Call::Mend => calls::mend(key, w, s, n, number, local, tags, remote),
+                Call::Read => calls::read(key, volume, s, n, number, local, tags, remote, out),
+                Call::Mend => calls::mend(key, volume, s, n, number, local, tags, remote),
                 Call::Survey => {
                     let (list, counts) = (&mut v.list, &mut v.counts);
-                    calls::survey(key, w, s, n, local, tags, remote, list, counts)
+                    calls::survey(key, volume, s, n, local, tags, remote, list, counts)
                 }
             }
         }

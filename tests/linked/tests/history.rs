@@ -1,14 +1,18 @@
-//! Random histories of volumes through the compiled library. After every event
-//! the plain machine says what each sector must give.
+//! Random histories of volumes through the compiled library, each under one key
+//! and one number. After every event the plain machine says what each sector must
+//! give.
 
 use linked::both::Both;
 use reference::history::{insist_on_variety, run_histories};
 
-/// How many seeds: 18, or what the variable MIRROR_SEEDS says.
+/// As many seeds come to every kind of number.
+const SEEDS: u64 = 18;
+
+/// How many seeds: those, or what the variable MIRROR_SEEDS says.
 fn seeds() -> u64 {
     match std::env::var("MIRROR_SEEDS") {
         Ok(text) => text.parse().expect("MIRROR_SEEDS is a number"),
-        Err(_) => 18,
+        Err(_) => SEEDS,
     }
 }
 
@@ -18,6 +22,10 @@ fn histories_through_the_library() {
     let large = [(512, 3), (4096, 2)];
     let tally = run_histories(&Both, 0..seeds(), &small, 700);
     insist_on_variety(&tally);
+    for number in ["number 0", "number 1", "largest number", "any number"] {
+        let histories = tally.get(&format!("history under {number}"));
+        assert!(histories > 0 || seeds() < SEEDS, "{number}");
+    }
     let of_large = run_histories(&Both, 1000..1000 + seeds().min(2), &large, 150);
     for (what, times) in &tally.0 {
         println!("{what}: {times}");
