@@ -17,11 +17,11 @@
 //! | images of a volume of n sectors, n from 1 to 65,536 | local and remote n times the size, tags n times 16 |
 //!
 //! Lengths and numbers are not asked of the caller: every value is safe, and a
-//! wrong one is refused. Each call lists its refusals in the order in which it
-//! checks them. **A refused call has changed no byte that it was lent.** What
-//! the calls answer is proved of the library (`libmirror.a`, for x86-64 Linux);
-//! this crate only hands slices over and names the answers, and is tested, not
-//! proved.
+//! wrong one is refused. Every volume's number and every address is accepted.
+//! Each call lists its refusals in the order in which it checks them. **A refused
+//! call has changed no byte that it was lent.** What the calls answer is proved of
+//! the library (`libmirror.a`, for x86-64 Linux); this crate only hands slices over
+//! and names the answers, and is tested, not proved.
 //!
 //! # One sector
 //!
