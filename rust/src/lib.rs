@@ -4,8 +4,8 @@
 //! sector. Sealing makes all three from a plaintext, under a key, a volume's
 //! number and an address. Any two of them give the plaintext back, so damage to
 //! one place is found and can be mended, unless another plaintext happens to fit
-//! two places as well ([`Clashing`](Refusal::Clashing)). A **volume** is a count
-//! of sectors in three images; sector `i`, from 0, has address `i`. The
+//! two places as well ([`Clashing`](Refusal::Clashing)). A **volume** is one or
+//! more sectors in three images; sector `i`, from 0, has address `i`. The
 //! **volume's number** is any `u64`, one for each volume under a key; see
 //! [`Volume`].
 //!

@@ -315,6 +315,32 @@ fn refusals_through_the_library() {
     }
 }
 
+/// The answers that are about lengths and numbers, and not about what is there.
+const OF_ARGUMENTS: [u32; 7] = [1, 2, 3, 4, 8, 9, 11];
+
+/// What is refused under one volume's number is refused under every one.
+#[test]
+fn no_number_of_a_volume_changes_a_refusal() {
+    let mut rng = Rng::new(400);
+    for (call, _) in CALLS {
+        let right = right(&mut rng, call, 32, 3);
+        for fault in faults(call, &right) {
+            let mut wrong = right.clone();
+            apply(&mut wrong, fault);
+            let (due, _) = call.by_both(&wrong);
+            if !OF_ARGUMENTS.contains(&due) {
+                continue;
+            }
+            for volume in [0, 1, u64::MAX, !right.volume] {
+                wrong.volume = volume;
+                let (number, left) = call.by_both(&wrong);
+                assert_eq!(number, due, "{call:?} with {fault:?} under {volume}");
+                assert!(left == wrong, "{call:?} is refused, and changes a byte");
+            }
+        }
+    }
+}
+
 /// One fault at a time, since three images of a megabyte are copied for each
 /// call, and none that makes every sector larger.
 #[test]
