@@ -1,5 +1,5 @@
 -- What is proved of the survey. Assumes nothing.
-use mathlib.Core.Path.{_≡_, refl}
+use mathlib.Core.Path.{_≡_, refl, ap, _∙_}
 use mathlib.Core.Bool.{Bool, true, false}
 use mathlib.Core.List.{List}
 use mathlib.Core.Option.{none, some}
@@ -11,18 +11,22 @@ use Rattle.history.specs.Answers.{isLost}
 use Rattle.history.specs.History.{Found, Promise, Promised, own}
 use Rattle.history.specs.HistoryFrom.{AnyBytes}
 use Rattle.history.specs.Machine.{Held, gone, kept, start}
-use Rattle.answers.specs.Rules.{Volume}
+use Rattle.answers.specs.Rules.{Volume, settleBy}
 use Rattle.history.specs.Power.{Event, AllAllowed, run, hold}
 use Rattle.history.specs.Volume.{mirror}
 use Rattle.history.proofs.Demand3.{mirror-sound, general}
 use Rattle.history.proofs.Events.{run-bytes}
 use Rattle.answers.proofs.Passing.{Common}
 use Rattle.report.specs.declared.Counts.{Counts}
-use Rattle.report.specs.Survey.{tally, Report, refused, counted, verdictAt, surveyOutcome, LostAt, isKept, SurveyFacts}
+use Rattle.report.specs.Survey.{tally, Report, refused, counted, verdictAt, surveyOutcome, LostAt, isKept, SurveyFacts, surveyRefusal, surveyed}
 use Rattle.report.proofs.ByFitting.{of-outcome, lost-at, by-fitting, repair-once}
 use Rattle.report.proofs.Refusals.{accepts, survey-passes, survey-refused}
 use Rattle.report.proofs.Once.{lists-once}
 use Rattle.report.proofs.Tallies.{all-counted, apart}
+use Rattle.history.specs.Before.{mirrorBefore}
+use Rattle.history.proofs.Before.{as-before}
+use Rattle.mode.specs.Scheme.{Scheme}
+use lib.ListN.{length}
 
 -- ---- after a list of events
 
@@ -60,6 +64,14 @@ module _ (vol : Volume) (v : Triple) (bytes : AnyBytes v) (es : List Event) (all
       (λ o. let w = verdictAt (own mirror vol) (vol .size) (run mirror vol v es) in
       omega (arith, all-counted w (vol .count), apart isKept isLost (hold mirror vol v start es) w (vol .count) (kept-not-lost o)))
 
+number-0 : (v : Triple) (vol : Volume) (list : List ℕ) → vol .number ≡ 0
+    → surveyOutcome v vol list
+    ≡ settleBy refused (surveyRefusal v vol (length list)) (surveyed (verdictAt (mirrorBefore (vol .key)) (vol .size) v) (vol .count) list) list
+unfolding surveyOutcome
+number-0 v vol list zero =
+    ap (λ (S : Scheme). settleBy refused (surveyRefusal v vol (length list)) (surveyed (verdictAt S (vol .size) v) (vol .count) list) list)
+    (ap (mirror (vol .key)) zero ∙ as-before .seals (vol .key))
+
 pub survey-facts : SurveyFacts
 survey-facts = record {
   lists-once = lists-once;
@@ -67,6 +79,7 @@ survey-facts = record {
   accepts = accepts;
   refuses = λ v vol list m. survey-refused v vol list;
   answers = λ v vol list e. survey-passes v vol list e refl;
+  number-0 = number-0;
   by-fitting = by-fitting;
   kept-found = kept-found;
   kept-counted = kept-counted;

@@ -22,6 +22,7 @@ use Rattle.history.specs.Machine.{Held, gone, kept, start}
 use Rattle.history.specs.Power.{Event, AllAllowed, run, hold}
 use Rattle.history.specs.Volume.{sectorOf, mirror}
 use Rattle.history.specs.History.{own, at}
+use Rattle.history.specs.Before.{mirrorBefore}
 
 -- ---- counts and the list, from the verdict on each sector
 
@@ -176,6 +177,10 @@ pub record SurveyFacts : Type 1 where
       → surveyOutcome v vol list ≡ (refused m, list)
   pub answers : (v : Triple) (vol : Volume) (list : List ℕ) → surveyRefusal v vol (length list) ≡ none
       → surveyOutcome v vol list ≡ surveyed (verdictAt (own mirror vol) (vol .size) v) (vol .count) list
+  -- a volume with number 0 is surveyed as before there were numbers (change request S-2)
+  pub number-0 : (v : Triple) (vol : Volume) (list : List ℕ) → vol .number ≡ 0
+      → surveyOutcome v vol list
+      ≡ settleBy refused (surveyRefusal v vol (length list)) (surveyed (verdictAt (mirrorBefore (vol .key)) (vol .size) v) (vol .count) list) list
   -- these are the counts, and the list, by fitting
   pub by-fitting : (v : Triple) → AnyBytes v → (vol : Volume) (list : List ℕ) (c : Counts) (after : List ℕ)
       → surveyOutcome v vol list ≡ (counted c, after) → ByFitting vol v list c after

@@ -3,3 +3,4 @@ pub mod Public
 pub mod Opening
 pub mod Marked
 pub mod Demand2
+pub mod Before
