@@ -1,9 +1,9 @@
 -- Three images and their sectors, and what a call that is not refused leaves of them. Assumes nothing but the laws of the sealing.
 use mathlib.Core.Path.{_≡_, refl, sym, _∙_, ap, subst}
-use mathlib.Core.Bool.{true}
 use mathlib.Core.Logic.{_⊎_, inl, inr}
 use mathlib.Core.List.{List, [], _∷_}
 use mathlib.Core.Option.{Option, none, some}
+use mathlib.Core.Bool.{true}
 use Prim.Native.Nat.{ℕ, _<_, _*_}
 use lib.ListN.{length}
 use Rattle.block.specs.Bytes.{Bytes, Plain, part, patch}
@@ -18,9 +18,9 @@ use Rattle.history.specs.HistoryFrom.{Agree, AnyBytes}
 use Rattle.block.proofs.Parts.{bytes-part, bytes-patch, length-part, length-patch, part-patch, part-other}
 use Rattle.verdict.proofs.JudgeExact.{same-place}
 use Rattle.answers.proofs.Passing.{Common}
+use Rattle.history.specs.History.{own}
 use Rattle.history.proofs.Refusals.{Passed, refusal-none, accepted-passed, accepted-images, sized}
 use Rattle.history.proofs.Sector.{on-store, on-store-other, lands, storeAll, sectorAfter, AllPlain, writes-plain, keeps}
-use Rattle.history.specs.History.{own}
 
 -- ---- writing to a sector
 

@@ -14,11 +14,11 @@ use Rattle.verdict.specs.Verdict.{Verdict}
 use Rattle.history.specs.Answers.{isWhole}
 use Rattle.history.specs.HistoryFrom.{AnyBytes}
 use Rattle.history.specs.Volume.{mirror}
+use Rattle.history.specs.History.{own}
 use Rattle.report.specs.declared.Counts.{Counts}
 use Rattle.report.specs.Survey.{tally, health, countsOf, written, Report, refused, verdictAt, surveyed, surveyRefusal, surveyOutcome, ByFitting}
 use Rattle.report.proofs.SurveyFacts.{survey-facts}
 use Rattle.mirror.specs.Survey.{surveyResult, SurveyNumbers}
-use Rattle.history.specs.History.{own}
 
 -- no refusal of a survey has the number 0
 not-zero : (a b c d : Bool) → firstOf (rule 1 a ∷ rule 2 b ∷ rule 8 c ∷ rule 11 d ∷ []) ≡ some 0 → ⊥

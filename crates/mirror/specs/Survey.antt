@@ -6,10 +6,10 @@ use mathlib.Core.Option.{none, some}
 use Prim.Native.Nat.{ℕ}
 use lib.ListN.{length}
 use Rattle.mode.specs.Sealing.{Triple}
+use Rattle.answers.specs.Rules.{Volume}
 use Rattle.history.specs.HistoryFrom.{AnyBytes}
 use Rattle.report.specs.declared.Counts.{Counts}
 use Rattle.report.specs.Survey.{Report, refused, counted, surveyRefusal, surveyOutcome, ByFitting}
-use Rattle.answers.specs.Rules.{Volume}
 
 abbrev pub numbers : Counts → List ℕ
 numbers c = c .whole ∷ c .doubtful ∷ c .clashing ∷ c .lost ∷ c .health ∷ []

@@ -10,8 +10,8 @@ use Rattle.mode.specs.Sealing.{Triple}
 use Rattle.answers.specs.Rules.{settleBy, isShape, Volume}
 use Rattle.history.specs.Volume.{mirror}
 use Rattle.answers.proofs.Passing.{survey-pass}
-use Rattle.report.specs.Survey.{Report, refused, verdictAt, surveyed, surveyOutcome, surveyRefusal}
 use Rattle.history.specs.History.{own}
+use Rattle.report.specs.Survey.{Report, refused, verdictAt, surveyed, surveyOutcome, surveyRefusal}
 
 -- what passes them
 pub accepts : (v : Triple) (vol : Volume) (room : ℕ) → isKey (vol .key) ≡ true → isSize (vol .size) ≡ true → isShape (vol .size) (vol .count) v ≡ true

@@ -5,8 +5,10 @@ use mathlib.Core.List.{List}
 use mathlib.Core.Option.{none, some}
 use Prim.Native.Nat.{ℕ, _+_, _<_, _≤_}
 use native.Mathlib.Omega.{arith}
+use lib.ListN.{length}
 use Rattle.block.proofs.Lists.{false-true}
 use Rattle.mode.specs.Sealing.{Triple}
+use Rattle.mode.specs.Scheme.{Scheme}
 use Rattle.history.specs.Answers.{isLost}
 use Rattle.history.specs.History.{Found, Promise, Promised, own}
 use Rattle.history.specs.HistoryFrom.{AnyBytes}
@@ -17,16 +19,14 @@ use Rattle.history.specs.Volume.{mirror}
 use Rattle.history.proofs.Demand3.{mirror-sound, general}
 use Rattle.history.proofs.Events.{run-bytes}
 use Rattle.answers.proofs.Passing.{Common}
+use Rattle.history.specs.Before.{mirrorBefore}
+use Rattle.history.proofs.Before.{as-before}
 use Rattle.report.specs.declared.Counts.{Counts}
 use Rattle.report.specs.Survey.{tally, Report, refused, counted, verdictAt, surveyOutcome, LostAt, isKept, SurveyFacts, surveyRefusal, surveyed}
 use Rattle.report.proofs.ByFitting.{of-outcome, lost-at, by-fitting, repair-once}
 use Rattle.report.proofs.Refusals.{accepts, survey-passes, survey-refused}
 use Rattle.report.proofs.Once.{lists-once}
 use Rattle.report.proofs.Tallies.{all-counted, apart}
-use Rattle.history.specs.Before.{mirrorBefore}
-use Rattle.history.proofs.Before.{as-before}
-use Rattle.mode.specs.Scheme.{Scheme}
-use lib.ListN.{length}
 
 -- ---- after a list of events
 

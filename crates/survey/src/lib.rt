@@ -14,11 +14,11 @@ ghost use lib.Seq.{sets};
 ghost use Rattle.mode.specs.Prepared.{KeyReady, schemeOf};
 ghost use Rattle.mode.specs.Scheme.{isKey};
 ghost use Rattle.mode.specs.Sealing.{keyFrom, triple};
+ghost use Rattle.answers.specs.Rules.{volumeOf};
 ghost use Rattle.history.specs.Volume.{mirror};
 ghost use Rattle.images.specs.Lent.{Room, Within, Scratch};
 ghost use Rattle.report.specs.Survey.{verdictAt, health, counted, surveyed, reportOf, surveyOutcome};
 ghost use Rattle.survey.specs.Inner.{verdictBy, Tells, CountsOne, MarksOne, maps, Empty, Sized, AllJudged, setBelow, inOrder};
-ghost use Rattle.answers.specs.Rules.{volumeOf};
 
 // Judges sector i, whose number makes the context.
 fn judge_at<'k>(
