@@ -33,7 +33,8 @@ half f = together f / 2
 abbrev pub field : ℕ → ℕ → List ℕ → List ℕ
 field a n f = take n (drop a f)
 
--- Judge under the volume's number 0 for a frame 01, Combine for a frame 02, with an output as long as a sector: the answer's number and the output afterwards
+-- Judge, under the volume's number 0, for a frame 01, Combine for a frame 02, with an output as long as a sector: the answer's number and
+-- the output afterwards
 unfoldable pub judged : List ℕ → List ℕ → ℕ × List ℕ
 judged f out =
     let s : ℕ = length out in

@@ -16,7 +16,7 @@ use Rattle.history.specs.History.{at, own}
 use Rattle.history.specs.HistoryFrom.{Agree, AnyBytes, Agrees}
 use Rattle.history.proofs.Refusals.{accepted-passed}
 use Rattle.history.proofs.Sector.{keeps-hurt}
-use Rattle.history.proofs.Images.{any-bytes, bytes-write, images-write, sector-write, sector-other, leaves-refused, left, held-after, AllLawful}
+use Rattle.history.proofs.Images.{any-bytes, bytes-write, images-write, sector-write, sector-other, leaves-refused, left, held-after, AllSound}
 
 -- ---- the state
 
@@ -46,7 +46,7 @@ module _ (seals : Schemes) (vol : Volume) (v : Triple) (h : State) (a : Args) (c
   pub machine-refused : (k : ℕ) → refusal seals v a c ≡ some k → machine h (seen seals vol v (call a c f)) ≡ h
   machine-refused k e = ap (λ (r : Option ℕ). machine h (called a c (isRefused r) (told (sealing seals a) (a .number) (sector (leavesCall seals v a c f) a) c f))) e
 
-module _ (seals : Schemes) (sound : AllLawful seals) (vol : Volume) where
+module _ (seals : Schemes) (sound : AllSound seals) (vol : Volume) where
   -- one sector changes, and what is held of it
   agrees-put : (v w : Triple) (h : State) (i : ℕ) (x : Held) → Agrees seals vol v h → Images (vol .size) (vol .count) w
       → Agree (vol .size) (own seals vol) i (at vol w i) x

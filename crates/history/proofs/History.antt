@@ -14,12 +14,12 @@ use Rattle.history.specs.Power.{Fate, Event, call, damage, Images, leave
 use Rattle.history.specs.History.{at, own, Promise, Promised}
 use Rattle.history.specs.HistoryFrom.{Agree, AnyBytes, Agrees, HistoryFrom, HistoryAny}
 use Rattle.history.proofs.Refusals.{accepted-images}
-use Rattle.history.proofs.Images.{any-bytes, bytes-write, leaves-refused, AllLawful}
+use Rattle.history.proofs.Images.{any-bytes, bytes-write, leaves-refused, AllSound}
 use Rattle.history.proofs.Events.{put-same, put-other, machine-refused, event-step, list-step}
 use Rattle.history.proofs.Promises.{promised-by, promised}
 
 -- From any state in which each kept plaintext fits every place not in doubt.
-pub history-from : (seals : Schemes) → AllLawful seals → HistoryFrom seals
+pub history-from : (seals : Schemes) → AllSound seals → HistoryFrom seals
 history-from seals sound vol v h g =
     let keeps : (es : List Event) → AllAllowed seals vol v es → Agrees seals vol (run seals vol v es) (hold seals vol v h es) = λ es m. list-step seals sound vol es v h g m in
     (λ es m. promised seals sound vol (run seals vol v es) (hold seals vol v h es) (keeps es m), keeps)
@@ -30,7 +30,7 @@ start-agrees seals vol v I = record { images = I; agree = λ i lt. tt }
 
 -- ---- images of any lengths: no call is accepted until damage has made the lengths right, and till then all stays gone
 
-module _ (seals : Schemes) (sound : AllLawful seals) (vol : Volume) where
+module _ (seals : Schemes) (sound : AllSound seals) (vol : Volume) where
   abbrev AllGone : State → Type 0
   AllGone h = (i : ℕ) → h i ≡ gone
 
@@ -80,7 +80,7 @@ module _ (seals : Schemes) (sound : AllLawful seals) (vol : Volume) where
       go (inr z) = promised-by seals sound vol v h (g .bytes) (λ i lt. subst (λ (x : Held). Promise seals vol v i x) (sym (z i)) tt)
 
 -- From images of any lengths.
-pub history-any : (seals : Schemes) → AllLawful seals → HistoryAny seals
+pub history-any : (seals : Schemes) → AllSound seals → HistoryAny seals
 history-any seals sound vol v b es m =
     either-promised seals sound vol (run seals vol v es) (hold seals vol v start es)
     (either-list seals sound vol es v start (record { bytes = b; cases = inr (λ i. refl) }) m)

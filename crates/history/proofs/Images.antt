@@ -3,14 +3,13 @@ use mathlib.Core.Path.{_≡_, refl, sym, _∙_, ap, subst}
 use mathlib.Core.Logic.{_⊎_, inl, inr}
 use mathlib.Core.List.{List, [], _∷_}
 use mathlib.Core.Option.{Option, none, some}
-use mathlib.Core.Bool.{true}
 use Prim.Native.Nat.{ℕ, _<_, _*_}
 use lib.ListN.{length}
 use Rattle.block.specs.Bytes.{Bytes, Plain, part, patch}
 use Rattle.mode.specs.Sealing.{Triple}
-use Rattle.mode.specs.Scheme.{Place, local, tag, remote, on, wide, Sector, Lawful, isKey, isSize}
+use Rattle.mode.specs.Scheme.{Place, local, tag, remote, on, wide, Sector, Lawful, Sound}
 use Rattle.verdict.specs.Verdict.{Fits}
-use Rattle.answers.specs.Rules.{Args, Volume}
+use Rattle.answers.specs.Rules.{Args}
 use Rattle.history.specs.Volume.{sectorOf, store, write, writeAll, Call, first, writes, unless, sector, sealing, refusal, landed, after, Schemes}
 use Rattle.history.specs.Machine.{Held, step}
 use Rattle.history.specs.Power.{Fate, finished, cut, told, Images, LentBytes, CutOf, leavesCall}
@@ -18,7 +17,6 @@ use Rattle.history.specs.HistoryFrom.{Agree, AnyBytes}
 use Rattle.block.proofs.Parts.{bytes-part, bytes-patch, length-part, length-patch, part-patch, part-other}
 use Rattle.verdict.proofs.JudgeExact.{same-place}
 use Rattle.answers.proofs.Passing.{Common}
-use Rattle.history.specs.History.{own}
 use Rattle.history.proofs.Refusals.{Passed, refusal-none, accepted-passed, accepted-images, sized}
 use Rattle.history.proofs.Sector.{on-store, on-store-other, lands, storeAll, sectorAfter, AllPlain, writes-plain, keeps}
 
@@ -113,14 +111,14 @@ module _ (seals : Schemes) (v : Triple) (a : Args) (c : Call) (f : Fate) (w : Tr
     pub mine : sector w a ≡ sectorAfter (a .volume .size) (sealing seals a) (a .number) (sector v a) c f
     pub images : Images (a .volume .size) (a .volume .count) w
 
--- lawful for every volume with a key and a size that a call accepts
-abbrev pub AllLawful : Schemes → Type 0
-AllLawful seals = (vol : Volume) → isKey (vol .key) ≡ true → isSize (vol .size) ≡ true → Lawful (vol .size) (own seals vol)
+-- lawful for every number of a volume
+abbrev pub AllSound : Schemes → Type 0
+AllSound seals = (volume : ℕ) → Sound (λ k. seals k volume)
 
-module _ (seals : Schemes) (sound : AllLawful seals) where
+module _ (seals : Schemes) (sound : AllSound seals) where
   -- a call that passes the early checks has a lawful sealing
   pub passed-lawful : (v : Triple) (a : Args) → Common v (a .volume) → Lawful (a .volume .size) (sealing seals a)
-  passed-lawful v a p = sound (a .volume) (p .key) (p .size)
+  passed-lawful v a p = sound (a .volume .number) .lawful (a .volume .key) (a .volume .size) (p .key) (p .size)
 
   module _ (v : Triple) (b : AnyBytes v) (a : Args) (c : Call) (f : Fate) (lent : LentBytes c) (cuts : CutOf (a .volume .size) f) (e : refusal seals v a c ≡ none) where
     passed : Passed v a c

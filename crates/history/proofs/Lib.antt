@@ -11,4 +11,4 @@ pub mod Meaning
 pub mod Cuts
 pub mod Witness
 pub mod Rules
-pub mod Before
+pub mod Number

@@ -24,7 +24,7 @@ use Rattle.block.proofs.Lists.{same-eq, ne-same}
 use Rattle.verdict.proofs.JudgeExact.{one-for-all, judge-means}
 use Rattle.history.proofs.Refusals.{passed, refusal-late, answer-late}
 use Rattle.history.proofs.Sector.{some-inj, agree-two, agree-doubtful, judge-sure, whole-accepted}
-use Rattle.history.proofs.Images.{any-bytes, sector-images, passed-lawful, first-landed, AllLawful}
+use Rattle.history.proofs.Images.{any-bytes, sector-images, passed-lawful, first-landed, AllSound}
 use Rattle.history.proofs.Outcomes.{read-late}
 use Rattle.history.proofs.Events.{argsOf, takes-args, call-others}
 
@@ -89,7 +89,7 @@ call-6 S i t (read o) e = number-lost (judge S i t) (sym (number-by (judge S i t
 
 -- ---- one sector
 
-module _ (seals : Schemes) (sound : AllLawful seals) (vol : Volume) (v : Triple) (I : Images (vol .size) (vol .count) v) (i : ℕ) (lt : i < vol .count) where
+module _ (seals : Schemes) (sound : AllSound seals) (vol : Volume) (v : Triple) (I : Images (vol .size) (vol .count) v) (i : ℕ) (lt : i < vol .count) where
   here : Sector (vol .size) (at vol v i)
   here = sector-images (vol .size) (vol .count) i lt v I
 
@@ -169,7 +169,7 @@ module _ (seals : Schemes) (sound : AllLawful seals) (vol : Volume) (v : Triple)
 
 -- ---- all sectors
 
-module _ (seals : Schemes) (sound : AllLawful seals) (vol : Volume) (v : Triple) (h : State) where
+module _ (seals : Schemes) (sound : AllSound seals) (vol : Volume) (v : Triple) (h : State) where
   -- what is promised of all sectors, from what is promised of each
   pub promised-by : AnyBytes v → ((i : ℕ) → i < vol .count → Promise seals vol v i (h i)) → Promised seals vol v h
   promised-by b held = record { held = held; mend-7 = λ i a b out p q. (λ e. sym (mend-as-read seals vol v i a b out p q) ∙ e, λ e. mend-as-read seals vol v i a b out p q ∙ e); others = call-others seals sound vol v b }

@@ -73,7 +73,7 @@ module _ (vol : Volume) (accepted : AcceptedVolume vol) (i : ℕ) (lt : i < vol 
 
   -- the sector's verdict where the machine keeps it without doubt
   lawful : Lawful (vol .size) (own mirror vol)
-  lawful = mirror-sound vol (accepted .key) (accepted .size)
+  lawful = mirror-sound (vol .number) .lawful (vol .key) (vol .size) (accepted .key) (accepted .size)
 
   sure-whole : (v : Triple) (h : State) → Agrees mirror vol v h → (P : List ℕ) → h i ≡ kept P none → judge (own mirror vol) i (at vol v i) ≡ whole P
   sure-whole v h g P e =

@@ -42,8 +42,8 @@ pub record CutExact : Type 0 where
       → ((k : Cut) × Allowed mirror vol v (call a c (cut k)) × (leaves mirror vol v (call a c (cut k)) ≡ w)) ↔ CutLeaves v a c w
   -- of a cut second stage the machine is told that the tag is new exactly if the tag that is left is P's
   pub tag-told : (S : Scheme) (i : ℕ) (t : Triple) (P : List ℕ) (k : Cut) → (told S i t (second P) (cut k) ≡ toldCut true) ↔ Fits S i t tag P
-  -- what else is allowed: every finished call with the volume's key, number, s and n, every call that is or would be refused, with any arguments, and
-  -- damage of any bytes to any place of any sector
+  -- what else is allowed: every finished call with the volume's key, number, s and n, every call that is or would be refused, with any
+  -- arguments, and damage of any bytes to any place of any sector
   pub finished-allowed : (vol : Volume) (v : Triple) (a : Args) (c : Call) → a .volume ≡ vol → LentBytes c → Allowed mirror vol v (call a c finished)
   pub refused-allowed : (vol : Volume) (v : Triple) (a : Args) (c : Call) (k : ℕ) → LentBytes c → refusal mirror v a c ≡ some k → Allowed mirror vol v (call a c finished)
   pub damage-allowed : (vol : Volume) (v : Triple) (p : Place) (i : ℕ) (b : List ℕ) → i < vol .count → Plain (wide (vol .size) p) b → Allowed mirror vol v (damage p i b)

@@ -1,6 +1,6 @@
 -- What a volume's calls answer and leave, by which plaintexts fit which places of the sector (document 01, "The verdict", "A volume"). One
--- statement for every key, volume's number, s, n, number and images of any bytes; proved as `calls-mean`. `outcome` and `readOutcome` are the definitions
--- that the calls' contracts cite.
+-- statement for every key, volume's number, s, n, sector's number and images of any bytes; proved as `calls-mean`. `outcome` and
+-- `readOutcome` are the definitions that the calls' contracts cite.
 use mathlib.Core.Path.{_≡_}
 use mathlib.Core.Logic.{_↔_}
 use mathlib.Core.List.{List, [], _∷_}

@@ -20,11 +20,11 @@ seals-as-before : (k : Key) (address : ℕ) (P : List ℕ) → sealed k 0 addres
 unfolding sealed tweak toBytes
 seals-as-before k address P = refl
 
-one-pair : (volume address number at : ℕ) → volume < 2 ^ 64 → address < 2 ^ 64 → number < 2 ^ 64 → at < 2 ^ 64
-    → tweak volume address ≡ tweak number at → (volume ≡ number) × (address ≡ at)
-one-pair volume address number at hv ha hn hb e =
-    let same : volume * 2 ^ 64 + address ≡ number * 2 ^ 64 + at = tweak-is volume address hv ha ∙ e ∙ sym (tweak-is number at hn hb) in
-    (sym (digits-div volume ha) ∙ ap (λ (x : ℕ). x / 2 ^ 64) same ∙ digits-div number hb, sym (digits-mod volume ha) ∙ ap (λ (x : ℕ). x % 2 ^ 64) same ∙ digits-mod number hb)
+one-pair : (volume address volume′ address′ : ℕ) → volume < 2 ^ 64 → address < 2 ^ 64 → volume′ < 2 ^ 64 → address′ < 2 ^ 64
+    → tweak volume address ≡ tweak volume′ address′ → (volume ≡ volume′) × (address ≡ address′)
+one-pair volume address volume′ address′ hv ha hw hb e =
+    let same : volume * 2 ^ 64 + address ≡ volume′ * 2 ^ 64 + address′ = tweak-is volume address hv ha ∙ e ∙ sym (tweak-is volume′ address′ hw hb) in
+    (sym (digits-div volume ha) ∙ ap (λ (x : ℕ). x / 2 ^ 64) same ∙ digits-div volume′ hb, sym (digits-mod volume ha) ∙ ap (λ (x : ℕ). x % 2 ^ 64) same ∙ digits-mod volume′ hb)
 
 pub tweak-facts : TweakFacts
 tweak-facts = record { halves = halves; number-0 = number-0; seals-as-before = seals-as-before; one-pair = one-pair }

@@ -26,7 +26,7 @@ pub record KeyReady (t w powers : List ℕ) (a b : Block) : Type 0 where
   pub are-powers : Powers powers
   pub alpha : value a ≡ cipherNumber w 0
 
--- E(0) and E(1) as the context of an address has them
+-- E(0) and E(1) as the context of a number and an address has them
 abbrev pub Ready : List ℕ → List ℕ → List ℕ → Context → Type 0
 Ready t w powers ctx = KeyReady t w powers (ctx .alpha) (ctx .beta)
 

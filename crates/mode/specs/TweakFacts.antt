@@ -22,5 +22,5 @@ pub record TweakFacts : Type 0 where
   pub number-0 : (address : ℕ) → tweak 0 address ≡ tweakBefore address
   pub seals-as-before : (k : Key) (address : ℕ) (P : List ℕ) → sealed k 0 address P ≡ sealedBefore k address P
   -- another number or another address gives another tweak
-  pub one-pair : (volume address number at : ℕ) → volume < 2 ^ 64 → address < 2 ^ 64 → number < 2 ^ 64 → at < 2 ^ 64
-      → tweak volume address ≡ tweak number at → (volume ≡ number) × (address ≡ at)
+  pub one-pair : (volume address volume′ address′ : ℕ) → volume < 2 ^ 64 → address < 2 ^ 64 → volume′ < 2 ^ 64 → address′ < 2 ^ 64
+      → tweak volume address ≡ tweak volume′ address′ → (volume ≡ volume′) × (address ≡ address′)

@@ -103,7 +103,7 @@ fn number(s: &[u8]) -> u64 {
     x
 }
 
-// The last eight bytes of field 1.
+// Field 1 has the number and the address, or the address alone: its last eight bytes.
 fn address(frame: &[u8]) -> u64 {
     number(field(frame, 1))
 }

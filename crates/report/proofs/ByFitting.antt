@@ -125,7 +125,7 @@ module _ (v : Triple) (bytes : AnyBytes v) (vol : Volume) (o : Common v vol) whe
   w = verdictAt S s v
 
   exact : JudgeExact s S
-  exact = judge-exact s S (mirror-sound vol (o .key) (o .size))
+  exact = judge-exact s S (mirror-sound (vol .number) .lawful (vol .key) s (o .key) (o .size))
 
   sector-at : (i : ℕ) → i < n → Sector s (sectorOf s i v)
   sector-at i lt = sector-images s n i lt v (shape-images s n v (o .shape) bytes)

@@ -19,8 +19,8 @@ use Rattle.history.specs.Volume.{mirror}
 use Rattle.history.proofs.Demand3.{mirror-sound, general}
 use Rattle.history.proofs.Events.{run-bytes}
 use Rattle.answers.proofs.Passing.{Common}
-use Rattle.history.specs.Before.{mirrorBefore}
-use Rattle.history.proofs.Before.{as-before}
+use Rattle.history.specs.Number.{mirrorBefore}
+use Rattle.history.proofs.Number.{number-facts}
 use Rattle.report.specs.declared.Counts.{Counts}
 use Rattle.report.specs.Survey.{tally, Report, refused, counted, verdictAt, surveyOutcome, LostAt, isKept, SurveyFacts, surveyRefusal, surveyed}
 use Rattle.report.proofs.ByFitting.{of-outcome, lost-at, by-fitting, repair-once}
@@ -70,7 +70,7 @@ number-0 : (v : Triple) (vol : Volume) (list : List ℕ) → vol .number ≡ 0
 unfolding surveyOutcome
 number-0 v vol list zero =
     ap (λ (S : Scheme). settleBy refused (surveyRefusal v vol (length list)) (surveyed (verdictAt S (vol .size) v) (vol .count) list) list)
-    (ap (mirror (vol .key)) zero ∙ as-before .seals (vol .key))
+    (ap (mirror (vol .key)) zero ∙ number-facts .seals-as-before (vol .key))
 
 pub survey-facts : SurveyFacts
 survey-facts = record {

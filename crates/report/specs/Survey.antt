@@ -1,5 +1,5 @@
--- The survey of a volume (document 01, "A volume", with change request S-1): what it refuses, counts and lists. Assumes nothing: these are
--- definitions.
+-- The survey of a volume (document 01, "A volume", with change requests S-1 and S-2): what it refuses, counts and lists. Assumes nothing:
+-- these are definitions.
 -- `SurveyFacts`, at the end, states what is proved of them, as `survey-facts`.
 use mathlib.Core.Path.{_≡_}
 use mathlib.Core.Logic.{_⊎_, _↔_}
@@ -22,7 +22,7 @@ use Rattle.history.specs.Machine.{Held, gone, kept, start}
 use Rattle.history.specs.Power.{Event, AllAllowed, run, hold}
 use Rattle.history.specs.Volume.{sectorOf, mirror}
 use Rattle.history.specs.History.{own, at}
-use Rattle.history.specs.Before.{mirrorBefore}
+use Rattle.history.specs.Number.{mirrorBefore}
 
 -- ---- counts and the list, from the verdict on each sector
 
@@ -91,7 +91,7 @@ surveyOutcome v vol list =
 
 -- ---- the same by fitting (document 01, "The verdict"), without judging
 
--- sector i of the images v, under its address i
+-- sector i of the images v, under the volume's key and number and its address i
 module _ (vol : Volume) (v : Triple) where
   abbrev pub Fitting : Verdict → ℕ → Type 0
   Fitting w i = Means (vol .size) (own mirror vol) i (at vol v i) w

@@ -73,6 +73,10 @@ module _ (k : Key) (volume s : ℕ) (ek : isKey k ≡ true) (es : isSize s ≡ t
 
   -- ---- seal
 
+  the-mode : (address : ℕ) (P : List ℕ) → scheme k .sealed (tweak volume address) P ≡ sealed k volume address P
+  unfolding sealed scheme dcm
+  the-mode address P = refl
+
   seals : (address : ℕ) (P : List ℕ) (out : Triple) → Plain s P → ((p : Place) → length (on out p) ≡ wide s p) → sealCall k volume address P out ≡ (0, sealed k volume address P)
   seals address P out plain long =
       let e = plain .long in
@@ -183,6 +187,10 @@ module _ (k : Key) (volume s : ℕ) (ek : isKey k ≡ true) (es : isSize s ≡ t
     side-plain localSide = long local
     side-plain remoteSide = long remote
 
+    judges-sealed : judgeCall k volume address t out ≡ (0, P)
+    unfolding sealed scheme dcm
+    judges-sealed = judges address t out (record { places = long }) size .at-whole P .1 (plain, λ p. refl)
+
     itself-sealed : (d : Side) → SealsTo k volume s address d (on t (placeOf d)) (t .tag) P
     itself-sealed d = record { size = plain; sector = refl; its-tag = refl }
 
@@ -207,6 +215,8 @@ demand-2 k volume s ek es = record {
   judges = judges k volume s ek es;
   opens = opens k volume s ek es;
   rebuilds = rebuilds k volume s ek es;
+  the-mode = the-mode k volume s ek es;
+  judges-sealed = judges-sealed k volume s ek es;
   opens-sealed = λ address d P out p e. opens-sealed k volume s ek es address P out p e d;
   rebuilds-sealed = λ address d P out p e. rebuilds-sealed k volume s ek es address P out p e d;
   combines-sealed = combines-sealed k volume s ek es;

@@ -1,5 +1,5 @@
--- Demand 2 on the calls' definitions, as one statement: proved as `demand-2`. It is for every key of 32 bytes, every 64-bit volume's number,
--- every sector size s, every 64-bit address, and all bytes.
+-- Demand 2 on the calls' definitions, as one statement: proved as `demand-2`. It is for every key of 32 bytes, every volume's number, every
+-- sector size s, every address, and all bytes.
 use mathlib.Core.Path.{_≡_}
 use mathlib.Core.Logic.{_↔_}
 use mathlib.Core.Bool.{true, false}
@@ -32,8 +32,8 @@ pub record Judges (k : Key) (volume s address : ℕ) (t : Triple) (out : List �
   pub at-lost : (judgeCall k volume address t out ≡ (6, out)) ↔ Means s (scheme k) (tweak volume address) t lost
   pub at-clashing : (judgeCall k volume address t out ≡ (7, out)) ↔ Means s (scheme k) (tweak volume address) t clashing
 
--- opening gives P exactly for the sealed sectors and tags of that key, number, address and side, and answers 5 with the output as it was exactly
--- if no plaintext fits both
+-- opening gives P exactly for the sealed sectors and tags of that key, number, address and side, and answers 5 with the output as it was
+-- exactly if no plaintext fits both
 pub record Opens (k : Key) (volume s address : ℕ) (d : Side) (x g out : List ℕ) : Type 0 where
   pub gives : (P : List ℕ) → (openCall k volume address (sideNumber d) x g out ≡ (0, P)) ↔ SealsTo k volume s address d x g P
   pub refuses : (openCall k volume address (sideNumber d) x g out ≡ (5, out)) ↔ ((P : List ℕ) → SealsTo k volume s address d x g P → ⊥)
@@ -52,7 +52,11 @@ pub record Demand2 (k : Key) (volume s : ℕ) : Type 0 where
   pub judges : (address : ℕ) (t : Triple) (out : List ℕ) → Sector s t → length out ≡ s → Judges k volume s address t out
   pub opens : (address : ℕ) (d : Side) (x g out : List ℕ) → Plain s x → Plain 16 g → length out ≡ s → Opens k volume s address d x g out
   pub rebuilds : (address : ℕ) (d : Side) (x g out : List ℕ) → Plain s x → Plain 16 g → length out ≡ s → Rebuilds k volume s address d x g out
-  -- of a sealed sector: either side and the tag open to the plaintext and rebuild the other side, and the two sides combine to it
+  -- what judging compares with, in `Means`, is what sealing gives under that key, number and address
+  pub the-mode : (address : ℕ) (P : List ℕ) → scheme k .sealed (tweak volume address) P ≡ sealed k volume address P
+  -- of a sealed sector: it judges whole; either side and the tag open to the plaintext and rebuild the other side, and the two sides combine
+  -- to it
+  pub judges-sealed : (address : ℕ) (P out : List ℕ) → Plain s P → length out ≡ s → judgeCall k volume address (sealed k volume address P) out ≡ (0, P)
   pub opens-sealed : (address : ℕ) (d : Side) (P out : List ℕ) → Plain s P → length out ≡ s
       → openCall k volume address (sideNumber d) (on (sealed k volume address P) (placeOf d)) (sealed k volume address P .tag) out ≡ (0, P)
   pub rebuilds-sealed : (address : ℕ) (d : Side) (P out : List ℕ) → Plain s P → length out ≡ s

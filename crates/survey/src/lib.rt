@@ -1,4 +1,4 @@
-// The survey of a volume (document 01, change request S-1). The call takes any input and checks it for itself.
+// The survey of a volume (document 01, change requests S-1 and S-2). The call takes any input and checks it for itself.
 use aes::Table;
 use answers::Done;
 use answers::Judged;
@@ -20,7 +20,7 @@ ghost use Rattle.images.specs.Lent.{Room, Within, Scratch};
 ghost use Rattle.report.specs.Survey.{verdictAt, health, counted, surveyed, reportOf, surveyOutcome};
 ghost use Rattle.survey.specs.Inner.{verdictBy, Tells, CountsOne, MarksOne, maps, Empty, Sized, AllJudged, setBelow, inOrder};
 
-// Judges sector i, whose number makes the context.
+// Judges sector i: the volume's number and the sector's make the context.
 fn judge_at<'k>(
     t: &Table,
     w: &'k [u32],

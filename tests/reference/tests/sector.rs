@@ -248,7 +248,7 @@ fn openssl_sealing_agrees() {
     for size in SIZES {
         let (key, address) = (rng.bytes(32), rng.next_u64());
         let plaintext = rng.bytes(size);
-        for volume in [0, 0x0102_0304_0506_0708] {
+        for volume in [0, 0x0102_0304_0506_0708, u64::MAX] {
             let outside = second_seal(encrypt, &key, volume, address, &plaintext);
             assert_eq!(sealed(&key, volume, address, &plaintext), outside);
         }
