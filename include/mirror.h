@@ -68,6 +68,10 @@
  *   - The images are private memory. A call may store a tag byte by byte: in a shared mapping of the medium (mmap with MAP_SHARED) a kill
  *     or a power cut between two bytes leaves a mixture, and a second stage cut so loses the sector.
  *
+ * FROM 0.2.0. Every call with a key takes the volume's number behind it; give 0 for a volume of before, and its bytes stay as they are.
+ * Compile everything again, and compare mirror_version() with MIRROR_VERSION: what declares the functions for itself (another language, a
+ * library opened by name) or was compiled with an older header is not warned. For struct mirror_volume see its comment.
+ *
  * EXAMPLE. One sector, of volume 1, at address 7. For a volume see struct mirror_volume below, and examples/ in the source tree.
  *
  *   uint8_t key[MIRROR_KEY_BYTES], plain[512], local[512], tag[MIRROR_TAG_BYTES], remote[512], out[512];
@@ -79,7 +83,7 @@
  *   case MIRROR_WHOLE:           return 0;
  *   case MIRROR_DOUBTFUL_LOCAL:
  *   case MIRROR_DOUBTFUL_TAG:
- *   case MIRROR_DOUBTFUL_REMOTE: return 1;  (out has the plaintext; one place is damaged: seal it again)
+ *   case MIRROR_DOUBTFUL_REMOTE: return 1;  (out has the plaintext; one place is damaged: seal it again, as before)
  *   default:                     return -1; (refused: out is as it was)
  *   }
  */
@@ -119,7 +123,8 @@
 #define MIRROR_REFUSED_OTHER_LENGTH 3u  /* a plaintext, a sector, a tag or an output has another length than it must have: give s bytes,
                                            16 for a tag */
 #define MIRROR_REFUSED_UNKNOWN_SIDE 4u  /* the side is neither MIRROR_SIDE_LOCAL nor MIRROR_SIDE_REMOTE: name one of them */
-#define MIRROR_REFUSED_NONE_FITS 5u     /* no plaintext fits this side and this tag: try the other side, or judge if both are there */
+#define MIRROR_REFUSED_NONE_FITS 5u     /* no plaintext fits this side and this tag: see that key, volume's number and address
+                                           are the sector's; then try the other side, or judge if both are there */
 #define MIRROR_REFUSED_LOST 6u          /* no plaintext fits two places: check the key and the volume's number on other sectors; if they
                                            are right, blank, and write from a backup */
 #define MIRROR_REFUSED_CLASHING 7u      /* more than one plaintext fits two places: if a write was under way, go on with its second and
@@ -127,7 +132,7 @@
                                            each side, combine both, choose, blank, and write the choice */
 #define MIRROR_REFUSED_VOLUME_SHAPE 8u  /* n is not 1 to 65,536, or an image has another length than s and n ask for: check s, n and the
                                            images */
-#define MIRROR_REFUSED_SECTOR_NUMBER 9u /* the number is not below n: sectors count from 0 */
+#define MIRROR_REFUSED_SECTOR_NUMBER 9u /* the sector's number is not below n: sectors count from 0 */
 #define MIRROR_REFUSED_STAGE_ORDER 10u  /* this stage is not due: read the sector, mend it if doubtful, and begin with the first stage */
 #define MIRROR_REFUSED_LIST_LENGTH 11u  /* the list is shorter than n: lend one entry for each sector */
 
@@ -175,8 +180,8 @@ MIRROR_ANSWER mirror_seal(const uint8_t *key, size_t key_len, uint64_t volume, u
                           uint8_t *local, size_t local_len, uint8_t *tag, size_t tag_len, uint8_t *remote, size_t remote_len);
 
 /*
- * Judges a sector and writes its plaintext to out. It mends nothing: after MIRROR_DOUBTFUL_... seal the plaintext again, and write the
- * place that the answer names.
+ * Judges a sector and writes its plaintext to out. It mends nothing: after MIRROR_DOUBTFUL_... seal the plaintext again, under the same
+ * number and address, and write the place that the answer names.
  *   1 key_len is not 32
  *   2 local_len is not a sector size
  *   3 remote_len or out_len is not local_len, or tag_len is not 16
@@ -217,8 +222,10 @@ MIRROR_ANSWER mirror_rebuild(const uint8_t *key, size_t key_len, uint64_t volume
 MIRROR_ANSWER mirror_combine(const uint8_t *local, size_t local_len, const uint8_t *remote, size_t remote_len, uint8_t *out,
                              size_t out_len);
 
-/* ---- a volume. `volume` is its number, and `number` that of a sector. All images are lent to every call, whole; a call may write only
- * those that it takes without const. struct mirror_volume below saves the repeated arguments. */
+/* ---- a volume. `volume` is its number, and `number` that of a sector. Both are integers, and the compiler does not tell them apart: where
+ * they are exchanged and `volume` is below n, a blank is accepted and destroys the sector of that number. All images are lent to every call,
+ * whole; a call may write only those that it takes without const. struct mirror_volume below saves the repeated arguments, and the exchange
+ * with them. */
 
 /*
  * Blanks one sector: seals a plaintext of s zeros into its part of all three images, whatever was there. Each sector of a new volume is
@@ -296,8 +303,8 @@ MIRROR_ANSWER mirror_mend(const uint8_t *key, size_t key_len, uint64_t volume, s
  *
  * The list is in repair order: the first counts[MIRROR_COUNT_LOST] entries are the lost sectors, the next counts[MIRROR_COUNT_CLASHING] the
  * clashing ones, the next counts[MIRROR_COUNT_DOUBTFUL] the doubtful ones; within a kind the numbers rise. So no read is needed to tell the
- * kinds, and the list is one value for a key, a volume's number and a volume. The clashing ones begin at list + counts[MIRROR_COUNT_LOST],
- * the doubtful ones counts[MIRROR_COUNT_CLASHING] entries behind that.
+ * kinds, and the list is one value for a key, a volume's number and three images. The clashing ones begin at
+ * list + counts[MIRROR_COUNT_LOST], the doubtful ones counts[MIRROR_COUNT_CLASHING] entries behind that.
  *   1, 2, 8 as mirror_blank
  *   11 list_len is below n
  *   MIRROR_DONE: go by MIRROR_REFUSED_LOST and MIRROR_REFUSED_CLASHING above for the lost and the clashing sectors, and mend the doubtful.
@@ -329,7 +336,9 @@ static inline const char *mirror_text(uint32_t answer)
     case MIRROR_REFUSED_UNKNOWN_SIDE:
         return "the side is neither 0 (local) nor 1 (remote): name one of the two";
     case MIRROR_REFUSED_NONE_FITS:
-        return "no plaintext fits this side and this tag: try the other side, or judge the sector if both are there";
+        return "no plaintext fits this side and this tag: "
+               "see that the key, the volume's number and the address are the sector's; "
+               "then try the other side, or judge the sector if both are there";
     case MIRROR_REFUSED_LOST:
         return "lost, no plaintext fits two places: "
                "see by other sectors whether the key and the volume's number are right; "
@@ -371,9 +380,12 @@ static inline const char *mirror_text(uint32_t answer)
  *   both:   uint32_t answer = mirror_volume_blank(&v, 2);
  *           if (answer != MIRROR_DONE) fprintf(stderr, "sector 2: %s\n", mirror_text(answer));
  *
- * Name the fields, as here, since a later release may have more of them, in other places. A field that is left out is 0: a length, s or n
- * of 0 is refused, and a `volume` of 0 is the number 0. So a program that named its fields for release 0.2.0 compiles as it is, and keeps
- * its volume, whose number is 0. A new volume under a key that another volume has needs a number of its own.
+ * Initialise it with named fields, as here, since a later release may have more of them, in other places. A field that is left out of
+ * such an initialiser is 0: a length, s or n of 0 is refused, and a `volume` of 0 is the number 0. So a program that did so for release
+ * 0.2.0 compiles as it is, and keeps its volume, whose number is 0. One that assigns the fields one by one, to a struct that it has not
+ * initialised or to memory from malloc, must set `volume` too: else it is what happened to be there, and the compiler may not say so. One
+ * that initialises by position adds it behind key_len: compilers may only warn. A new volume under a key that another volume has needs a
+ * number of its own.
  *
  * The images are without const, since most calls write; for images that may only be read call mirror_read and mirror_survey themselves.
  */

@@ -160,7 +160,10 @@ impl Refusal {
             Refusal::SectorSize => "give the size that the sector or the volume was made with",
             Refusal::OtherLength => "give as many bytes as the sector's size, and 16 for a tag",
             Refusal::UnknownSide => "name one of the two",
-            Refusal::NoneFits => "try the other side, or judge the sector if both are there",
+            Refusal::NoneFits => {
+                "see that the key, the volume's number and the address are the sector's; \
+                 then try the other side, or judge the sector if both are there"
+            }
             Refusal::Lost => {
                 "see by other sectors whether the key and the volume's number are right; \
                  if they are, blank the sector and write it from a backup"

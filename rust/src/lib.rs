@@ -54,10 +54,10 @@
 //! ```
 //! use mirror::{Place, Refusal, Verdict, Volume, KEY_BYTES, TAG_BYTES};
 //!
-//! let (key, number, size, count) = ([7; KEY_BYTES], 1, 512, 4);
+//! let (key, volume, size, count) = ([7; KEY_BYTES], 1, 512, 4);
 //! let local = vec![0; count * size];
 //! let (tags, remote) = (vec![0; count * TAG_BYTES], local.clone());
-//! let mut volume = Volume::new(&key, number, size, count, local, tags, remote);
+//! let mut volume = Volume::new(&key, volume, size, count, local, tags, remote);
 //! # let write_out = |part: Option<&[u8]>| assert!(part.is_some());
 //! for i in 0..count {
 //!     volume.blank(i)?;

@@ -6,8 +6,11 @@ use crate::{ffi, Refusal, Side, Verdict};
 /// Seals the plaintext under key, volume's number and address: writes the local
 /// sector, the tag and the remote sector.
 ///
-/// A sector is sealed under number and address together. Where every call
-/// exchanges the two it is not noticed; where one does, the sector is lost.
+/// A sector is sealed under number and address together, and the other calls
+/// take both. Where every call exchanges the two it is not noticed; where one
+/// does, the sector is [lost](Refusal::Lost) to [`judge`], and [`open`] and
+/// [`rebuild`] answer [`NoneFits`](Refusal::NoneFits), unless the plaintext has
+/// one tag under both.
 ///
 /// # Errors
 ///
@@ -45,8 +48,8 @@ pub fn seal(
 
 /// Judges a sector and writes its plaintext to the output.
 ///
-/// It mends nothing. If the sector is doubtful, seal the plaintext again and
-/// write the place that the verdict names.
+/// It mends nothing. If the sector is doubtful, seal the plaintext again, under
+/// the same number and address, and write the place that the verdict names.
 ///
 /// # Errors
 ///

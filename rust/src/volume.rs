@@ -88,7 +88,7 @@ impl<'k, I> Volume<'k, I> {
         }
     }
 
-    /// The volume's number.
+    /// The volume's own number, not a sector's.
     pub const fn number(&self) -> u64 {
         self.number
     }
@@ -193,7 +193,7 @@ impl<I: AsRef<[u8]>> Volume<'_, I> {
     /// of the list, which is given back cut to these. Entries behind are
     /// untouched. The numbers come in repair order: first the lost sectors, then
     /// the clashing, then the doubtful; within a kind they rise. So the list is
-    /// one value for a key, a volume's number and a volume, and
+    /// one value for a key, a volume's number and three images, and
     /// [`Survey::by_kind`] tells the kinds without a read.
     ///
     /// # Errors
@@ -519,7 +519,7 @@ fn first_of(list: &[u32], count: usize) -> (&[u32], &[u32]) {
 #[derive(Clone, Copy, Debug, PartialEq, Eq, Hash)]
 pub struct ByKind<'l> {
     /// The lost sectors: no plaintext fits two places. If no sector is whole, look
-    /// for the right key and volume's number first: under a wrong one all are
+    /// for the right key and volume's number first: under wrong ones sectors are
     /// lost. Otherwise blank them, and write them from a backup.
     pub lost: &'l [u32],
     /// The clashing ones: more than one plaintext fits two places. If a write was

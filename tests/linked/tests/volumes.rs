@@ -420,3 +420,47 @@ fn a_volume_of_before_has_the_number_0() {
         }
     }
 }
+
+/// What a read that is whole gives.
+fn plaintext(lent: &Arguments, number: usize) -> Vec<u8> {
+    let given = Arguments {
+        number,
+        ..lent.clone()
+    };
+    insist_on(Call::Read, &given, 0).out
+}
+
+/// A volume moves to another number as the operators' document says: new images,
+/// blanked, each sector copied, and then compared. The old volume stays.
+#[test]
+fn a_volume_moves_to_another_number() {
+    for round in 0..rounds(8) {
+        let mut rng = Rng::new(1000 + round as u64);
+        for (s, n) in [(16, 5), (48, 3), (512, 2), (4096, 1)] {
+            let (key, number) = (rng.bytes(32), any_volume(&mut rng).max(1));
+            let old = written(&mut rng, &key, 0, s, n);
+            let mut new = new_volume(&mut rng, &key, number, s, n);
+            let under = |volume, of: &Arguments| {
+                survey(&Arguments {
+                    volume,
+                    ..of.clone()
+                })
+                .0
+            };
+            let (all_whole, all_lost) = ([n, 0, 0, 0], [0, 0, 0, n]);
+            assert_eq!(under(0, &old), all_whole);
+            assert_eq!(under(0, &new), all_lost);
+            blank_all(&mut new);
+            for sector in 0..n {
+                write(&mut new, sector, &plaintext(&old, sector));
+            }
+            assert_eq!(under(number, &new), all_whole);
+            for sector in 0..n {
+                assert_eq!(plaintext(&new, sector), plaintext(&old, sector));
+            }
+            assert_eq!(under(0, &new), all_lost);
+            assert_eq!(under(number, &old), all_lost);
+            assert_eq!(under(0, &old), all_whole);
+        }
+    }
+}

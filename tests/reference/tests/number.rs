@@ -229,9 +229,9 @@ fn clashes_under_a_number_are_lost_under_another() {
     }
 }
 
-/// With h zero the hash says nothing, so neither does the number.
+/// With h zero the hash is zero, so no number changes the bytes.
 #[test]
-fn under_h_zero_no_number_has_a_say() {
+fn under_h_zero_no_number_changes_the_bytes() {
     let mut rng = Rng::new(57);
     for size in SIZES {
         let key = [vec![0; 16], rng.bytes(16)].concat();
@@ -244,9 +244,9 @@ fn under_h_zero_no_number_has_a_say() {
 }
 
 /// In three blocks the hash of the plaintext is the tweak's factor. Where it is
-/// zero, as for h, anything, 0, neither number nor address has a say.
+/// zero, as for h, anything, 0, neither number nor address changes the bytes.
 #[test]
-fn under_a_factor_of_zero_no_number_has_a_say() {
+fn under_a_factor_of_zero_no_number_changes_the_bytes() {
     let mut rng = Rng::new(58);
     let key = rng.bytes(32);
     let plaintext = to_bytes(&[to_block(&key[..16]), rng.next_u128(), 0]);
