@@ -8,7 +8,7 @@ use Rattle.block.proofs.Parts.{length-part}
 use Rattle.mode.specs.Sealing.{Triple, Key, sealed}
 use Rattle.mode.specs.Scheme.{Place, local, tag, remote, on, wide, isSize, dcm, scheme}
 use Rattle.answers.specs.Rules.{firstOf, Args, args}
-use Rattle.answers.proofs.Passing.{Common, length-due, parts-pass}
+use Rattle.answers.proofs.Passing.{length-due, parts-pass}
 use Rattle.answers.proofs.Shapes.{shape-facts}
 use Rattle.verdict.specs.Verdict.{fits, fitsTwo, candidate, grade, judge}
 use Rattle.sector.specs.Calls.{sealCall, judgeCall}
