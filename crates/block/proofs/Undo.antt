@@ -10,7 +10,7 @@ use lib.Bits.{bitXor, bitOr, bitAnd, xor-block, xor-comm, xor-zero-r, xor-self, 
 use Rattle.block.proofs.Bits.{bit-cases, bit-lt, xor-assoc, xor-swap, xor-shl, xor-cancel-r}
 use Rattle.block.specs.Field.{times, double, horner, mul, x⁻¹, 1⊕x⁻¹}
 use Rattle.block.proofs.Field.{times-lt, mul-add, mul-two-l, mul-three-l, double-add, double-small, x⁻¹-inverse, 1⊕x⁻¹-inverse}
-use Rattle.block.proofs.Words.{ones, under-mask, shifted, twice-mod, out}
+use Rattle.block.proofs.Words.{ones, under-mask, left-mod, left-block, high-bits}
 
 -- ---- a word and its shift by k
 
@@ -107,11 +107,11 @@ module _ (hi lo g l m n : ℕ) (hl : l < 2 ^ 64) (hg : g < 2 ^ 64) (hm : m < 2 ^
   -- the sum with the shifted block
   sum : bitXor (s * 2 % 2 ^ 128) s ≡ hi * 2 ^ 64 + lo
   sum =
-      ap (λ (x : ℕ). bitXor x s) (shifted h l hh hl)
+      ap (λ (x : ℕ). bitXor x s) (left-block 1 h l (lit≤ tt) hh hl)
       ∙ xor-block 64 (h % 2 ^ 63 * 2 + q) h (l * 2 % 2 ^ 64) l (mod-lt (l * 2) (lit< tt)) hl
       ∙ ap₂ (λ (x y : ℕ). x * 2 ^ 64 + y)
       (xor-comm (h % 2 ^ 63 * 2 + q) h
-      ∙ ap (bitXor h) (sym (xor-shifted (h % 2 ^ 63) 1 q q-lt) ∙ ap (λ (x : ℕ). bitXor x q) (sym (twice-mod h l hh hl)))
+      ∙ ap (bitXor h) (sym (xor-shifted (h % 2 ^ 63) 1 q q-lt) ∙ ap (λ (x : ℕ). bitXor x q) (sym (left-mod 1 h l (lit≤ tt) hh hl)))
       ∙ sym (xor-assoc h (h * 2 % 2 ^ 64) q)
       ∙ ap (λ (x : ℕ). bitXor x q) upper ∙ xor-cancel-r hi q)
       (xor-comm (l * 2 % 2 ^ 64) l ∙ el)
@@ -135,7 +135,7 @@ module _ (hi lo g l m n : ℕ) (hl : l < 2 ^ 64) (hg : g < 2 ^ 64) (hm : m < 2 ^
       let d = s * 2 % 2 ^ 128 in
       mul-add 3 s rest
       ∙ ap₂ bitXor
-      (mul-three-l s ∙ ap (λ (y : ℕ). bitXor (bitXor d (times (y % 2) 0x87)) s) (out h l hh hl))
+      (mul-three-l s ∙ ap (λ (y : ℕ). bitXor (bitXor d (times (y % 2) 0x87)) s) (high-bits 63 h l hl))
       (tail o o-lt)
       ∙ ap (λ (y : ℕ). bitXor y t) (ap (λ (y : ℕ). bitXor y s) (xor-comm d t) ∙ xor-assoc t d s ∙ xor-comm t (bitXor d s))
       ∙ xor-cancel-r (bitXor d s) t

@@ -1,12 +1,12 @@
 -- Blocks as two words of 64 bits. Assumes nothing.
-use mathlib.Core.Path.{_≡_, refl, sym, ap, ap₂, _∙_}
+use mathlib.Core.Path.{_≡_, refl, sym, ap, ap₂, _∙_, subst}
 use mathlib.Core.Bool.{Bool, true, false}
 use Prim.Native.Nat.{ℕ, zero, suc, _+_, _-_, _*_, _/_, _%_, _^_, _≤_, _<_}
-use native.Mathlib.Nat.{div-one, mod-lt, mod-eq-of-lt, lt-of-le-of-lt, zero-add, add-mul, mul-right-comm, mul-add-div-right, mul-add-mod-self-right}
+use native.Mathlib.Nat.{div-one, mod-lt, mod-eq-of-lt, lt-of-le-of-lt, zero-add, add-zero, add-mul, mul-right-comm, mul-add-div-right, mul-add-mod-self-right}
 use native.Mathlib.Numerals.{add-one}
 use native.Mathlib.Omega.{arith}
-use lib.Dec.{eqb, lit<}
-use lib.Pow.{high, mod-pow-add, shr-shr, shr-lt}
+use lib.Dec.{eqb, lit<, lit≤}
+use lib.Pow.{high, low, pow-pos, mod-pow-add, shl-shr, shr-shr, shr-lt}
 use lib.Bits.{bitXor, bitOr, bitAnd, xor-block, xor-zero-r, or-shifted, and-comm, and-mask, and-le-r}
 use borrow.Author.Tests.{eqb-true, eqb-false, eq-eqb, ne-eqb}
 use Rattle.block.specs.Field.{times, double, horner, mul}
@@ -30,51 +30,73 @@ unfolding times
 under-mask {m} {c} zero e h = ap (λ (x : ℕ). bitAnd x c) e
 under-mask {m} {c} (suc q) e h = ap (λ (x : ℕ). bitAnd x c) e ∙ and-comm ones c ∙ and-mask c 64 ∙ mod-eq-of-lt h
 
+-- ---- a shift left by k bits
+
+-- what the shift does to two words, h and l
+module _ (k h l : ℕ) (hk : k ≤ 64) (hh : h < 2 ^ 64) (hl : l < 2 ^ 64) where
+  together : 64 ≡ 64 - k + k
+  together = omega arith
+
+  exchanged : 64 ≡ k + (64 - k)
+  exchanged = omega arith
+
+  joined : (q : ℕ) → q < 2 ^ k → (h * 2 ^ k + q) % 2 ^ 64 ≡ h % 2 ^ (64 - k) * 2 ^ k + q
+  joined q hq =
+      ap (λ (e : ℕ). (h * 2 ^ k + q) % 2 ^ e) together ∙ mod-pow-add (h * 2 ^ k + q) (64 - k) k
+      ∙ ap₂ (λ (x y : ℕ). x % 2 ^ (64 - k) * 2 ^ k + y) (high h k hq) (low h k hq)
+
+  pub left-mod : h * 2 ^ k % 2 ^ 64 ≡ h % 2 ^ (64 - k) * 2 ^ k
+  left-mod = ap (λ (x : ℕ). x % 2 ^ 64) (sym (add-zero (h * 2 ^ k))) ∙ joined 0 (pow-pos k) ∙ add-zero (h % 2 ^ (64 - k) * 2 ^ k)
+
+  carried : l * 2 ^ k / 2 ^ 64 ≡ l / 2 ^ (64 - k)
+  carried =
+      ap (λ (e : ℕ). l * 2 ^ k / 2 ^ e) exchanged ∙ sym (shr-shr (l * 2 ^ k) k (64 - k))
+      ∙ ap (λ (x : ℕ). x / 2 ^ (64 - k)) (shl-shr l k)
+
+  carry-lt : l / 2 ^ (64 - k) < 2 ^ k
+  carry-lt = shr-lt k (64 - k) (subst (λ (e : ℕ). l < 2 ^ e) exchanged hl)
+
+  upper : bitOr (h * 2 ^ k % 2 ^ 64) (l / 2 ^ (64 - k)) ≡ h % 2 ^ (64 - k) * 2 ^ k + l / 2 ^ (64 - k)
+  upper = ap (λ (x : ℕ). bitOr x (l / 2 ^ (64 - k))) left-mod ∙ or-shifted (h % 2 ^ (64 - k)) k (l / 2 ^ (64 - k)) carry-lt
+
+  regroup : (h * 2 ^ 64 + l) * 2 ^ k ≡ h * 2 ^ k * 2 ^ 64 + l * 2 ^ k
+  regroup = add-mul (h * 2 ^ 64) l (2 ^ k) ∙ ap (λ (x : ℕ). x + l * 2 ^ k) (mul-right-comm h (2 ^ 64) (2 ^ k))
+
+  pub left-block : (h * 2 ^ 64 + l) * 2 ^ k % 2 ^ 128 ≡ (h % 2 ^ (64 - k) * 2 ^ k + l / 2 ^ (64 - k)) * 2 ^ 64 + l * 2 ^ k % 2 ^ 64
+  left-block =
+      ap (λ (x : ℕ). x % 2 ^ 128) regroup ∙ mod-pow-add (h * 2 ^ k * 2 ^ 64 + l * 2 ^ k) 64 64
+      ∙ ap₂ (λ (x y : ℕ). x * 2 ^ 64 + y)
+      (ap (λ (x : ℕ). x % 2 ^ 64) (mul-add-div-right (lit< {m = 0} {n = 2 ^ 64} tt) (h * 2 ^ k) (l * 2 ^ k) ∙ ap (λ (x : ℕ). h * 2 ^ k + x) carried)
+      ∙ joined (l / 2 ^ (64 - k)) carry-lt)
+      (mul-add-mod-self-right (h * 2 ^ k) (2 ^ 64) (l * 2 ^ k))
+
+  -- and then ⊕ r at the low end
+  pub left-words : (r : ℕ) → r < 2 ^ 64
+      → bitOr (h * 2 ^ k % 2 ^ 64) (l / 2 ^ (64 - k)) * 2 ^ 64 + bitXor (l * 2 ^ k % 2 ^ 64) r ≡ bitXor ((h * 2 ^ 64 + l) * 2 ^ k % 2 ^ 128) r
+  left-words r hr =
+      let u = h % 2 ^ (64 - k) * 2 ^ k + l / 2 ^ (64 - k) in
+      ap (λ (x : ℕ). x * 2 ^ 64 + bitXor (l * 2 ^ k % 2 ^ 64) r) (upper ∙ sym (xor-zero-r u))
+      ∙ sym (xor-block 64 u 0 (l * 2 ^ k % 2 ^ 64) r (mod-lt (l * 2 ^ k) (lit< tt)) hr)
+      ∙ ap₂ bitXor (sym left-block) (zero-add r)
+
+-- the bits from 64 + j on are those of the high word
+pub high-bits : (j h l : ℕ) → l < 2 ^ 64 → (h * 2 ^ 64 + l) / 2 ^ (64 + j) ≡ h / 2 ^ j
+high-bits j h l hl = sym (shr-shr (h * 2 ^ 64 + l) 64 j) ∙ ap (λ (x : ℕ). x / 2 ^ j) (high h 64 hl)
+
 -- ---- doubling
 
--- the double's shifted part, word by word
 module _ (h l : ℕ) (hh : h < 2 ^ 64) (hl : l < 2 ^ 64) where
-  pub twice-mod : h * 2 % 2 ^ 64 ≡ h % 2 ^ 63 * 2
-  twice-mod = omega arith
-
-  carried : l * 2 / 2 ^ 64 ≡ l / 2 ^ 63
-  carried = omega arith
-
-  joined : (q : ℕ) → q < 2 → (h * 2 + q) % 2 ^ 64 ≡ h % 2 ^ 63 * 2 + q
-  joined q hq = omega arith
-
-  upper : bitOr (h * 2 % 2 ^ 64) (l / 2 ^ 63) ≡ (h % 2 ^ 63) * 2 + l / 2 ^ 63
-  upper = ap (λ (x : ℕ). bitOr x (l / 2 ^ 63)) twice-mod ∙ or-shifted (h % 2 ^ 63) 1 (l / 2 ^ 63) (shr-lt 1 63 hl)
-
-  regroup : (h * 2 ^ 64 + l) * 2 ≡ h * 2 * 2 ^ 64 + l * 2
-  regroup = add-mul (h * 2 ^ 64) l 2 ∙ ap (λ (x : ℕ). x + l * 2) (mul-right-comm h (2 ^ 64) 2)
-
-  pub shifted : (h * 2 ^ 64 + l) * 2 % 2 ^ 128 ≡ ((h % 2 ^ 63) * 2 + l / 2 ^ 63) * 2 ^ 64 + l * 2 % 2 ^ 64
-  shifted =
-      ap (λ (x : ℕ). x % 2 ^ 128) regroup ∙ mod-pow-add (h * 2 * 2 ^ 64 + l * 2) 64 64
-      ∙ ap₂ (λ (x y : ℕ). x * 2 ^ 64 + y)
-      (ap (λ (x : ℕ). x % 2 ^ 64) (mul-add-div-right (lit< {m = 0} {n = 2 ^ 64} tt) (h * 2) (l * 2) ∙ ap (λ (x : ℕ). h * 2 + x) carried)
-      ∙ joined (l / 2 ^ 63) (shr-lt 1 63 hl))
-      (mul-add-mod-self-right (h * 2) (2 ^ 64) (l * 2))
-
-  pub out : (h * 2 ^ 64 + l) / 2 ^ 127 ≡ h / 2 ^ 63
-  out = sym (shr-shr (h * 2 ^ 64 + l) 64 63) ∙ ap (λ (x : ℕ). x / 2 ^ 63) (high h 64 hl)
-
-  pub top-bit : h / 2 ^ 63 < 2
-  top-bit = shr-lt 1 63 hh
-
   reduction : {m : ℕ} → m ≡ times (h / 2 ^ 63) ones → bitAnd m 0x87 ≡ times ((h * 2 ^ 64 + l) / 2 ^ 127 % 2) 0x87
   reduction e =
       under-mask (h / 2 ^ 63) e (lit< tt)
-      ∙ ap (λ (x : ℕ). times x 0x87) (sym (mod-eq-of-lt top-bit)) ∙ ap (λ (x : ℕ). times (x % 2) 0x87) (sym out)
+      ∙ ap (λ (x : ℕ). times x 0x87) (sym (mod-eq-of-lt (shr-lt 1 63 hh))) ∙ ap (λ (x : ℕ). times (x % 2) 0x87) (sym (high-bits 63 h l hl))
 
   pub double-words : (m : ℕ) → m ≡ times (h / 2 ^ 63) ones
       → bitOr (h * 2 % 2 ^ 64) (l / 2 ^ 63) * 2 ^ 64 + bitXor (l * 2 % 2 ^ 64) (bitAnd m 0x87) ≡ double (h * 2 ^ 64 + l)
   unfolding double
   double-words m e =
-      ap₂ (λ (x y : ℕ). x * 2 ^ 64 + y) (upper ∙ sym (xor-zero-r (h % 2 ^ 63 * 2 + l / 2 ^ 63))) refl
-      ∙ sym (xor-block 64 (h % 2 ^ 63 * 2 + l / 2 ^ 63) 0 (l * 2 % 2 ^ 64) (bitAnd m 0x87) (mod-lt (l * 2) (lit< tt)) (lt-of-le-of-lt (and-le-r m 0x87) (lit< tt)))
-      ∙ ap₂ bitXor (sym shifted) (zero-add (bitAnd m 0x87) ∙ reduction e)
+      left-words 1 h l (lit≤ tt) hh hl (bitAnd m 0x87) (lt-of-le-of-lt (and-le-r m 0x87) (lit< tt))
+      ∙ ap (bitXor ((h * 2 ^ 64 + l) * 2 % 2 ^ 128)) (reduction e)
 
 pub times-set : (x b : ℕ) → (x ≡ 0 → ⊥) → times x b ≡ b
 unfolding times
