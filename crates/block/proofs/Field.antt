@@ -1,13 +1,13 @@
 -- Laws of the field. Assumes nothing.
 use mathlib.Core.Path.{_≡_, refl, sym, ap, ap₂, _∙_}
 use Prim.Native.Nat.{ℕ, zero, suc, _+_, _*_, _/_, _%_, _^_, _≤_, _<_}
-use native.Mathlib.Nat.{zero-add, suc-add, div-one, mod-lt, mod-one, mod-eq-of-lt, div-eq-of-lt, add-zero, le-of-suc-le, lt-of-lt-of-le, le-of-suc-le-suc, not-suc-le-zero, mul-one, mul-mod-left, pow-suc}
+use native.Mathlib.Nat.{mod-lt, mod-one, mod-eq-of-lt, div-eq-of-lt, add-zero, le-of-suc-le, lt-of-lt-of-le, le-of-suc-le-suc, not-suc-le-zero, mul-one, mul-mod-left, pow-suc}
 use native.Mathlib.Nat as N
-use native.Mathlib.Numerals.{add-one, one-add}
+use native.Mathlib.Numerals.{add-one}
 use native.Mathlib.Omega.{arith}
 use lib.Dec.{lit<, lit≤}
-use lib.Pow.{pow-pos, pow-mono, shl-lt, shl-shr, shr-shr, mod-pow-add}
-use lib.Bits.{bitXor, xor-comm, xor-zero-r, xor-self, xor-lt, xor-shr, xor-mod, xor-shifted, block-half, block-odd}
+use lib.Pow.{pow-pos, pow-mono, shl-lt, shl-shr, mod-pow-add}
+use lib.Bits.{bitXor, xor-comm, xor-zero-r, xor-self, xor-lt, xor-shr, xor-mod, xor-shifted}
 use Rattle.block.specs.FieldLaws.{FieldLaws}
 use Rattle.block.proofs.Bits.{bit-cases, bit-lt, xor-half, xor-bit, xor-assoc, xor-cancel, xor-swap, xor-shl}
 use Rattle.block.specs.Field.{times, double, horner, mul, x⁻¹, 1⊕x⁻¹}
@@ -83,24 +83,6 @@ horner-add-l b s t (suc n) a c =
     ∙ double-add (horner b s n (a / 2)) (horner b t n (c / 2)))
     (ap (λ (x : ℕ). times x b) (xor-bit a c) ∙ bits-add (a % 2) (c % 2) b (bit-lt a) (bit-lt c))
     ∙ xor-swap (double (horner b s n (a / 2))) (double (horner b t n (c / 2))) (times (a % 2) b) (times (c % 2) b)
-
--- the high bits first, then the n low ones
-pub horner-append : (b s m n a : ℕ) → horner b s (n + m) a ≡ horner b (horner b s m (a / 2 ^ n)) n a
-unfolding horner
-horner-append b s m zero a = ap₂ (horner b s) (zero-add m) (sym (div-one a))
-horner-append b s m (suc n) a =
-    ap (λ (k : ℕ). horner b s k a) (suc-add n m)
-    ∙ ap (λ (x : ℕ). bitXor (double x) (times (a % 2) b))
-    (horner-append b s m n (a / 2)
-    ∙ ap (λ (x : ℕ). horner b (horner b s m x) n (a / 2)) (shr-shr a 1 n ∙ ap (λ (e : ℕ). a / 2 ^ e) (one-add n)))
-
--- only the n low bits count
-pub horner-low : (b s q n r : ℕ) → horner b s n (q * 2 ^ n + r) ≡ horner b s n r
-unfolding horner
-horner-low b s q zero r = refl
-horner-low b s q (suc n) r =
-    ap₂ (λ (x y : ℕ). bitXor (double (horner b s n x)) (times y b)) (block-half q n r) (block-odd q n r)
-    ∙ ap (λ (x : ℕ). bitXor (double x) (times (r % 2) b)) (horner-low b s q n (r / 2))
 
 -- a map that is linear and commutes with doubling passes through
 module _ (f : ℕ → ℕ) (f-zero : f 0 ≡ 0) (f-add : (a b : ℕ) → f (bitXor a b) ≡ bitXor (f a) (f b)) (f-double : (a : ℕ) → f (double a) ≡ double (f a)) where

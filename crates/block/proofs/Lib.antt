@@ -9,3 +9,5 @@ pub mod WordBytes
 pub mod Undo
 pub mod Linear
 pub mod Squares
+pub mod Product
+pub mod Tables

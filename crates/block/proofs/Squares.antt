@@ -109,7 +109,7 @@ word-square w {r} {s} hw hr hs er es =
 
 -- ---- a block
 
-x¹²⁸ : mul (2 ^ 64) (2 ^ 64) ≡ 0x87
+pub x¹²⁸ : mul (2 ^ 64) (2 ^ 64) ≡ 0x87
 unfolding mul horner double times
 x¹²⁸ = refl
 
@@ -159,7 +159,7 @@ product-linear =
     sum (after (left 64) (sum (after kept-linear (right 64)) (after pushedOut-linear (low 64))))
     (after kept-linear (sum (low 64) (after pushedOut-linear (right 64))))
 
-mul-linear : (a : ℕ) → Linear (mul a)
+pub mul-linear : (a : ℕ) → Linear (mul a)
 mul-linear a = record { add = mul-add a }
 
 product-bits : onBits product 128 ≡ onBits (mul 0x87) 128

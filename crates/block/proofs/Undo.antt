@@ -107,11 +107,11 @@ module _ (hi lo g l m n : ℕ) (hl : l < 2 ^ 64) (hg : g < 2 ^ 64) (hm : m < 2 ^
   -- the sum with the shifted block
   sum : bitXor (s * 2 % 2 ^ 128) s ≡ hi * 2 ^ 64 + lo
   sum =
-      ap (λ (x : ℕ). bitXor x s) (left-block 1 h l (lit≤ tt) hh hl)
+      ap (λ (x : ℕ). bitXor x s) (left-block 1 h l (lit≤ tt) hl)
       ∙ xor-block 64 (h % 2 ^ 63 * 2 + q) h (l * 2 % 2 ^ 64) l (mod-lt (l * 2) (lit< tt)) hl
       ∙ ap₂ (λ (x y : ℕ). x * 2 ^ 64 + y)
       (xor-comm (h % 2 ^ 63 * 2 + q) h
-      ∙ ap (bitXor h) (sym (xor-shifted (h % 2 ^ 63) 1 q q-lt) ∙ ap (λ (x : ℕ). bitXor x q) (sym (left-mod 1 h l (lit≤ tt) hh hl)))
+      ∙ ap (bitXor h) (sym (xor-shifted (h % 2 ^ 63) 1 q q-lt) ∙ ap (λ (x : ℕ). bitXor x q) (sym (left-mod 64 1 h (lit≤ tt))))
       ∙ sym (xor-assoc h (h * 2 % 2 ^ 64) q)
       ∙ ap (λ (x : ℕ). bitXor x q) upper ∙ xor-cancel-r hi q)
       (xor-comm (l * 2 % 2 ^ 64) l ∙ el)

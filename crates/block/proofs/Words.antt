@@ -2,15 +2,13 @@
 use mathlib.Core.Path.{_≡_, refl, sym, ap, ap₂, _∙_, subst}
 use mathlib.Core.Bool.{Bool, true, false}
 use Prim.Native.Nat.{ℕ, zero, suc, _+_, _-_, _*_, _/_, _%_, _^_, _≤_, _<_}
-use native.Mathlib.Nat.{div-one, mod-lt, mod-eq-of-lt, lt-of-le-of-lt, zero-add, add-zero, add-mul, mul-right-comm, mul-add-div-right, mul-add-mod-self-right}
-use native.Mathlib.Numerals.{add-one}
+use native.Mathlib.Nat.{mod-lt, mod-eq-of-lt, lt-of-le-of-lt, zero-add, add-zero, add-mul, mul-right-comm, mul-add-div-right, mul-add-mod-self-right}
 use native.Mathlib.Omega.{arith}
 use lib.Dec.{eqb, lit<, lit≤}
 use lib.Pow.{high, low, pow-pos, mod-pow-add, shl-shr, shr-shr, shr-lt}
 use lib.Bits.{bitXor, bitOr, bitAnd, xor-block, xor-zero-r, or-shifted, and-comm, and-mask, and-le-r}
 use borrow.Author.Tests.{eqb-true, eqb-false, eq-eqb, ne-eqb}
-use Rattle.block.specs.Field.{times, double, horner, mul}
-use Rattle.block.proofs.Field.{horner-append, horner-low}
+use Rattle.block.specs.Field.{times, double}
 
 -- ---- a bit spread over a word
 
@@ -32,32 +30,32 @@ under-mask {m} {c} (suc q) e h = ap (λ (x : ℕ). bitAnd x c) e ∙ and-comm on
 
 -- ---- a shift left by k bits
 
--- what the shift does to two words, h and l
-module _ (k h l : ℕ) (hk : k ≤ 64) (hh : h < 2 ^ 64) (hl : l < 2 ^ 64) where
-  together : 64 ≡ 64 - k + k
-  together = omega arith
+-- in w bits, and then q in the bits that it leaves free
+left-joined : (w k h q : ℕ) → k ≤ w → q < 2 ^ k → (h * 2 ^ k + q) % 2 ^ w ≡ h % 2 ^ (w - k) * 2 ^ k + q
+left-joined w k h q hk hq =
+    let parts : w ≡ w - k + k = omega arith in
+    ap (λ (e : ℕ). (h * 2 ^ k + q) % 2 ^ e) parts ∙ mod-pow-add (h * 2 ^ k + q) (w - k) k
+    ∙ ap₂ (λ (x y : ℕ). x % 2 ^ (w - k) * 2 ^ k + y) (high h k hq) (low h k hq)
 
-  exchanged : 64 ≡ k + (64 - k)
-  exchanged = omega arith
+pub left-mod : (w k h : ℕ) → k ≤ w → h * 2 ^ k % 2 ^ w ≡ h % 2 ^ (w - k) * 2 ^ k
+left-mod w k h hk =
+    ap (λ (x : ℕ). x % 2 ^ w) (sym (add-zero (h * 2 ^ k))) ∙ left-joined w k h 0 hk (pow-pos k) ∙ add-zero (h % 2 ^ (w - k) * 2 ^ k)
 
-  joined : (q : ℕ) → q < 2 ^ k → (h * 2 ^ k + q) % 2 ^ 64 ≡ h % 2 ^ (64 - k) * 2 ^ k + q
-  joined q hq =
-      ap (λ (e : ℕ). (h * 2 ^ k + q) % 2 ^ e) together ∙ mod-pow-add (h * 2 ^ k + q) (64 - k) k
-      ∙ ap₂ (λ (x y : ℕ). x % 2 ^ (64 - k) * 2 ^ k + y) (high h k hq) (low h k hq)
-
-  pub left-mod : h * 2 ^ k % 2 ^ 64 ≡ h % 2 ^ (64 - k) * 2 ^ k
-  left-mod = ap (λ (x : ℕ). x % 2 ^ 64) (sym (add-zero (h * 2 ^ k))) ∙ joined 0 (pow-pos k) ∙ add-zero (h % 2 ^ (64 - k) * 2 ^ k)
+-- what it does to two words, h and l
+module _ (k h l : ℕ) (hk : k ≤ 64) (hl : l < 2 ^ 64) where
+  parts : 64 ≡ k + (64 - k)
+  parts = omega arith
 
   carried : l * 2 ^ k / 2 ^ 64 ≡ l / 2 ^ (64 - k)
   carried =
-      ap (λ (e : ℕ). l * 2 ^ k / 2 ^ e) exchanged ∙ sym (shr-shr (l * 2 ^ k) k (64 - k))
+      ap (λ (e : ℕ). l * 2 ^ k / 2 ^ e) parts ∙ sym (shr-shr (l * 2 ^ k) k (64 - k))
       ∙ ap (λ (x : ℕ). x / 2 ^ (64 - k)) (shl-shr l k)
 
   carry-lt : l / 2 ^ (64 - k) < 2 ^ k
-  carry-lt = shr-lt k (64 - k) (subst (λ (e : ℕ). l < 2 ^ e) exchanged hl)
+  carry-lt = shr-lt k (64 - k) (subst (λ (e : ℕ). l < 2 ^ e) parts hl)
 
   upper : bitOr (h * 2 ^ k % 2 ^ 64) (l / 2 ^ (64 - k)) ≡ h % 2 ^ (64 - k) * 2 ^ k + l / 2 ^ (64 - k)
-  upper = ap (λ (x : ℕ). bitOr x (l / 2 ^ (64 - k))) left-mod ∙ or-shifted (h % 2 ^ (64 - k)) k (l / 2 ^ (64 - k)) carry-lt
+  upper = ap (λ (x : ℕ). bitOr x (l / 2 ^ (64 - k))) (left-mod 64 k h hk) ∙ or-shifted (h % 2 ^ (64 - k)) k (l / 2 ^ (64 - k)) carry-lt
 
   regroup : (h * 2 ^ 64 + l) * 2 ^ k ≡ h * 2 ^ k * 2 ^ 64 + l * 2 ^ k
   regroup = add-mul (h * 2 ^ 64) l (2 ^ k) ∙ ap (λ (x : ℕ). x + l * 2 ^ k) (mul-right-comm h (2 ^ 64) (2 ^ k))
@@ -67,7 +65,7 @@ module _ (k h l : ℕ) (hk : k ≤ 64) (hh : h < 2 ^ 64) (hl : l < 2 ^ 64) where
       ap (λ (x : ℕ). x % 2 ^ 128) regroup ∙ mod-pow-add (h * 2 ^ k * 2 ^ 64 + l * 2 ^ k) 64 64
       ∙ ap₂ (λ (x y : ℕ). x * 2 ^ 64 + y)
       (ap (λ (x : ℕ). x % 2 ^ 64) (mul-add-div-right (lit< {m = 0} {n = 2 ^ 64} tt) (h * 2 ^ k) (l * 2 ^ k) ∙ ap (λ (x : ℕ). h * 2 ^ k + x) carried)
-      ∙ joined (l / 2 ^ (64 - k)) carry-lt)
+      ∙ left-joined 64 k h (l / 2 ^ (64 - k)) hk carry-lt)
       (mul-add-mod-self-right (h * 2 ^ k) (2 ^ 64) (l * 2 ^ k))
 
   -- and then ⊕ r at the low end
@@ -95,37 +93,8 @@ module _ (h l : ℕ) (hh : h < 2 ^ 64) (hl : l < 2 ^ 64) where
       → bitOr (h * 2 % 2 ^ 64) (l / 2 ^ 63) * 2 ^ 64 + bitXor (l * 2 % 2 ^ 64) (bitAnd m 0x87) ≡ double (h * 2 ^ 64 + l)
   unfolding double
   double-words m e =
-      left-words 1 h l (lit≤ tt) hh hl (bitAnd m 0x87) (lt-of-le-of-lt (and-le-r m 0x87) (lit< tt))
+      left-words 1 h l (lit≤ tt) hl (bitAnd m 0x87) (lt-of-le-of-lt (and-le-r m 0x87) (lit< tt))
       ∙ ap (bitXor ((h * 2 ^ 64 + l) * 2 % 2 ^ 128)) (reduction e)
-
-pub times-set : (x b : ℕ) → (x ≡ 0 → ⊥) → times x b ≡ b
-unfolding times
-times-set zero b f = absurd (f refl)
-times-set (suc x) b f = refl
-
--- one bit more: the k-th bit from below, of n + k in all
-horner-next : (b s w n k : ℕ)
-    → bitXor (double (horner b s n (w / 2 ^ suc k))) (times (w / 2 ^ k % 2) b) ≡ horner b s (suc n) (w / 2 ^ k)
-unfolding horner
-horner-next b s w n k = ap (λ (x : ℕ). bitXor (double (horner b s n x)) (times (w / 2 ^ k % 2) b)) (ap (λ (e : ℕ). w / 2 ^ e) (sym (add-one k)) ∙ sym (shr-shr w k 1))
-
-pub word-next : (b s w k : ℕ) → 0 < k → k ≤ 64
-    → bitXor (double (horner b s (64 - k) (w / 2 ^ k))) (times (w / 2 ^ (k - 1) % 2) b) ≡ horner b s (64 - (k - 1)) (w / 2 ^ (k - 1))
-word-next b s w k p q =
-    ap (λ (e : ℕ). bitXor (double (horner b s (64 - k) (w / 2 ^ e))) (times (w / 2 ^ (k - 1) % 2) b)) (omega arith)
-    ∙ horner-next b s w (64 - k) (k - 1)
-    ∙ ap (λ (n : ℕ). horner b s n (w / 2 ^ (k - 1))) (omega arith)
-
-pub word-all : (b s w k : ℕ) → k ≡ 0 → horner b s (64 - k) (w / 2 ^ k) ≡ horner b s 64 w
-word-all b s w k e = ap (λ (j : ℕ). horner b s (64 - j) (w / 2 ^ j)) e ∙ ap (horner b s 64) (div-one w)
-
--- the two words one after the other
-pub two-words : (b h l : ℕ) → l < 2 ^ 64 → horner b (horner b 0 64 h) 64 l ≡ mul (h * 2 ^ 64 + l) b
-unfolding mul
-two-words b h l hl =
-    sym (horner-append b 0 64 64 (h * 2 ^ 64 + l)
-    ∙ ap (λ (x : ℕ). horner b (horner b 0 64 x) 64 (h * 2 ^ 64 + l)) (high h 64 hl)
-    ∙ horner-low b (horner b 0 64 h) h 64 l)
 
 -- ---- equal blocks have equal words
 

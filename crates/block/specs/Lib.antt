@@ -1,4 +1,5 @@
 pub mod Bytes
 pub mod Field
 pub mod FieldLaws
+pub mod Tables
 pub mod Value

@@ -1,14 +1,15 @@
 // Blocks of 16 bytes as elements of GF(2^128) modulo X^128 + X^7 + X^2 + X + 1, and the byte slices that hold them.
 ghost use mathlib.Core.Path.{_≡_};
-ghost use Prim.Native.Nat.{_+_, _*_, _%_, _^_, _≤_, _<_};
+ghost use Prim.Native.Nat.{ℕ, _+_, _*_, _/_, _%_, _^_, _≤_, _<_};
 ghost use mathlib.Core.List.{_++_};
 ghost use lib.ListN.{length, take, drop};
 ghost use lib.Bits.{bitXor};
 ghost use lib.Dec.{eqb};
 ghost use Rattle.block.specs.Bytes.{fromBytes, toBytes, xorBytes};
 ghost use Rattle.block.specs.Bytes as B;
-ghost use Rattle.block.specs.Field.{times, horner, x⁻¹, 1⊕x⁻¹};
+ghost use Rattle.block.specs.Field.{times, x⁻¹, 1⊕x⁻¹};
 ghost use Rattle.block.specs.Field as F;
+ghost use Rattle.block.specs.Tables.{Multiples, Reductions};
 ghost use Rattle.block.specs.Value.{value};
 
 // The element hi * 2^64 + lo.
@@ -88,33 +89,112 @@ pub fn undo_triple(c: Block) -> Block
     }
 }
 
-// b where the bit is 1, else zero.
-fn times_bit(bit: u64, b: Block) -> Block
-    ensures { λ r. ⌜ value r ≡ times bit (value b) ⌝ }
+// The sixteen multiples of b, four bits' worth: j * b has its high word at j and its low word at 16 + j, so that a lookup needs no shift.
+fn multiples(b: Block) -> [u64; 32]
+    ensures { λ r. ⌜ Multiples 16 (value b) r ⌝ }
 {
-    if bit == 0 { Block { hi: 0, lo: 0 } } else { b }
-}
-
-// Horner's rule over the 64 bits of a word, the highest first, from s on.
-fn mul_word(b: Block, s: Block, w: u64) -> Block
-    ensures { λ r. ⌜ value r ≡ horner (value b) (value s) 64 w ⌝ }
-{
-    let mut acc = s;
-    let mut k: u64 = 64;
-    while 0 < k {
-        k = k - 1;
-        let bit = (w >> k) % 2;
-        acc = xor(double(acc), times_bit(bit, b));
+    let mut t = [0u64; 32];
+    t[1] = b.hi;
+    t[17] = b.lo;
+    let mut i: usize = 1;
+    while i < 8 {
+        let even = double(Block {
+            hi: t[i],
+            lo: t[i + 16],
+        });
+        let odd = xor(even, b);
+        let j = 2 * i;
+        t[j] = even.hi;
+        t[j + 16] = even.lo;
+        let k = j + 1;
+        t[k] = odd.hi;
+        t[k + 16] = odd.lo;
+        i += 1;
     }
-    acc
+    t
 }
 
-// The product: the high word's bits, then the low word's.
+// The multiple for the four highest bits of w.
+fn multiple(t: &[u64; 32], w: u64) -> Block
+    ensures { λ r. ⌜ ((b : ℕ) → Multiples 16 b (now (t .entry)) → value r ≡ F.mul (w / 2 ^ 60) b) ⌝ }
+{
+    let j = (w >> 60) as usize;
+    Block {
+        hi: t[j],
+        lo: t[j + 16],
+    }
+}
+
+// What four bits leave when they are pushed out: entry n is n * x^128.
+const REDUCTIONS: [u64; 16] = [
+    0x000,
+    0x087,
+    0x10e,
+    0x189,
+    0x21c,
+    0x29b,
+    0x312,
+    0x395,
+    0x438,
+    0x4bf,
+    0x536,
+    0x5b1,
+    0x624,
+    0x6a3,
+    0x72a,
+    0x7ad,
+];
+
+// A use of the constant copies it, so it is taken once a product.
+fn reductions() -> [u64; 16]
+    ensures { λ r. ⌜ Reductions r ⌝ }
+{
+    REDUCTIONS
+}
+
+// One step of a product: x^4 times s, and the multiple m for the next four bits.
+fn step(r: &[u64; 16], s: Block, m: Block) -> Block
+    requires { ⌜ Reductions (now r) ⌝ }
+    ensures { λ y. ⌜ value y ≡ bitXor (F.mul 16 (value s)) (value m) ⌝ }
+{
+    let out = (s.hi >> 60) as usize;
+    Block {
+        hi: ((s.hi << 4) | (s.lo >> 60)) ^ m.hi,
+        lo: (s.lo << 4) ^ r[out] ^ m.lo,
+    }
+}
+
+// x^64 times p, and q.
+fn join(p: Block, q: Block) -> Block
+    ensures { λ r. ⌜ value r ≡ bitXor (F.mul (2 ^ 64) (value p)) (value q) ⌝ }
+{
+    let high = times_87(Block { hi: 0, lo: p.hi });
+    let low = Block {
+        hi: p.lo ^ q.hi,
+        lo: q.lo,
+    };
+    xor(high, low)
+}
+
+// The product, four bits of each word of a at a time, the highest first. The two words take turns, as neither waits for the other.
 pub fn mul(a: Block, b: Block) -> Block
     ensures { λ r. ⌜ value r ≡ F.mul (value a) (value b) ⌝ }
 {
-    let zero = Block { hi: 0, lo: 0 };
-    mul_word(b, mul_word(b, zero, a.hi), a.lo)
+    let t = multiples(b);
+    let r = reductions();
+    let mut p = Block { hi: 0, lo: 0 };
+    let mut q = Block { hi: 0, lo: 0 };
+    let mut u = a.hi;
+    let mut v = a.lo;
+    let mut i: usize = 0;
+    while i < 16 {
+        p = step(&r, p, multiple(&t, u));
+        q = step(&r, q, multiple(&t, v));
+        u = u << 4;
+        v = v << 4;
+        i += 1;
+    }
+    join(p, q)
 }
 
 // The square of a number below 2^32: its bits spread apart, bit i to bit 2i.
