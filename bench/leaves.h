@@ -1,5 +1,5 @@
-// The leaves in portable C: blocks, AES-128 with one table, the product in GF(2^128) bit by bit, and the hash BRW by its recursion. Both C
-// sides of the benchmark use them: bench.c times them alone, plain.c builds the calls on them.
+// The leaves in portable C: blocks, AES-128 with one table, the product in GF(2^128) by four bits at a time, and the hash BRW by its
+// recursion. Both C sides of the benchmark use them: bench.c times them alone, plain.c builds the calls on them.
 #ifndef LEAVES_H
 #define LEAVES_H
 
@@ -101,20 +101,43 @@ static inline void expand(const uint8_t key[16], uint32_t w[44]) {
 
 // ---- GF(2^128), and the hash BRW
 
-// Bit by bit, the highest of a first. Of several ways to write it in C this was the fastest.
-static block mul(block a, block b) {
-    uint64_t words[2] = {a.hi, a.lo};
-    block r = {0, 0};
-    for (int i = 0; i < 2; i++) {
-        uint64_t w = words[i];
-        for (int k = 0; k < 64; k++) {
-            uint64_t bit = -(w >> 63), out = -(r.hi >> 63);
-            r.hi = (r.hi << 1 | r.lo >> 63) ^ (b.hi & bit);
-            r.lo = r.lo << 1 ^ (0x87 & out) ^ (b.lo & bit);
-            w <<= 1;
-        }
+static inline block twice(block a) { return (block){a.hi << 1 | a.lo >> 63, a.lo << 1 ^ (a.hi >> 63) * 0x87}; }
+
+// The products of b by the sixteen polynomials below x^4: their high words and their low ones.
+static inline void multiples(block b, uint64_t hi[16], uint64_t lo[16]) {
+    hi[0] = lo[0] = 0, hi[1] = b.hi, lo[1] = b.lo;
+    for (int i = 1; i < 8; i++) {
+        block even = twice((block){hi[i], lo[i]});
+        hi[2 * i] = even.hi, hi[2 * i + 1] = even.hi ^ b.hi;
+        lo[2 * i] = even.lo, lo[2 * i + 1] = even.lo ^ b.lo;
     }
-    return r;
+}
+
+// A word above a block, folded into it: x^128 is x^7 + x^2 + x + 1.
+static inline block reduce(uint64_t above, uint64_t hi, uint64_t lo) {
+    hi ^= above >> 63 ^ above >> 62 ^ above >> 57;
+    lo ^= above ^ above << 1 ^ above << 2 ^ above << 7;
+    return (block){hi, lo};
+}
+
+// Four bits of each word of a at a time, the highest first, over the multiples of b. The sum is four words long and is reduced at the end.
+// Of the forms tried this was the fastest on the machine measured (gcc 12, -O3): none was faster by more than 1 %, alone or in BRW. The
+// others: bit by bit; one chain through both words of a; a chain for each word, reduced at every step by a table; the odd groups of four
+// bits apart from the even ones; each multiple shifted to its place; the multiples as an array of blocks; the loop not unrolled. The pragma
+// is a hint alone: a compiler that does not know it passes over it.
+static block mul(block a, block b) {
+    uint64_t hi[16], lo[16], w3 = 0, w2 = 0, w1 = 0, w0 = 0;
+    multiples(b, hi, lo);
+#pragma GCC unroll 16
+    for (int k = 60; k >= 0; k -= 4) {
+        int i = a.hi >> k & 15, j = a.lo >> k & 15;
+        w3 = w3 << 4 | w2 >> 60;
+        w2 = (w2 << 4 | w1 >> 60) ^ hi[i];
+        w1 = (w1 << 4 | w0 >> 60) ^ lo[i] ^ hi[j];
+        w0 = w0 << 4 ^ lo[j];
+    }
+    block upper = reduce(w3, w2, w1);
+    return reduce(upper.hi, upper.lo, w0);
 }
 
 // The hash of n blocks at x and then one more. power[i] is h^(2^i), as far as 2^i is not above n + 1.

@@ -38,8 +38,6 @@ static void store(uint8_t *x, block b) {
     store_word(x + 8, b.lo);
 }
 
-static block twice(block a) { return (block){a.hi << 1 | a.lo >> 63, a.lo << 1 ^ (a.hi >> 63) * 0x87}; }
-
 // ---- Sealing
 
 // A key made ready for sectors of some size.
