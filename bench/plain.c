@@ -29,6 +29,12 @@ static const block over_x = {0x8000000000000000, 0x43};
 
 void plain_start(void) { make_table(); }
 
+uint64_t plain_mul(uint64_t ahi, uint64_t alo, uint64_t bhi, uint64_t blo, uint64_t n) {
+    block a = {ahi, alo}, b = {bhi, blo};
+    while (n--) a = mul(a, b);
+    return a.hi ^ a.lo;
+}
+
 static void store_word(uint8_t *x, uint64_t w) {
     for (int i = 7; i >= 0; i--, w >>= 8) x[i] = (uint8_t)w;
 }
