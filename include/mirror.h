@@ -50,8 +50,8 @@
  *     volume under that key. Key, number, address and plaintext alone decide all bytes: two volumes under one key and one number have equal
  *     bytes for equal plaintexts at equal addresses, and a sector of one is accepted in the other, at the same address. Also in one volume
  *     a sector's old bytes, put back into all three places, are accepted. The number is not secret, and no key: see SECURITY.md.
- *   - Timing is not constant: AES looks up a table by secret bytes, comparisons end at the first difference, and a damaged sector takes
- *     longer than a whole one.
+ *   - Timing is not constant: AES and the hash look up tables by secret bits, comparisons end at the first difference, and a damaged sector
+ *     takes longer than a whole one.
  *   - A call does not wipe its scratch memory on the stack: what it made from key and plaintext stays there.
  *
  * POWER CUTS. The calls on a volume work on images in memory; the caller writes out the part that a call changed, and flushes it. What is
@@ -94,8 +94,8 @@
 #include <stdint.h>
 
 /* The release that this header is of: a number, major*1000000 + minor*1000 + patch, which #if can compare, and the same as a text. */
-#define MIRROR_VERSION 3000
-#define MIRROR_VERSION_TEXT "0.3.0"
+#define MIRROR_VERSION 4000
+#define MIRROR_VERSION_TEXT "0.4.0"
 
 /* Sizes in bytes, and the sectors of the largest volume. */
 #define MIRROR_KEY_BYTES 32

@@ -1,12 +1,12 @@
 -- Laws of the field. Assumes nothing.
 use mathlib.Core.Path.{_≡_, refl, sym, ap, ap₂, _∙_}
-use Prim.Native.Nat.{ℕ, zero, suc, _+_, _*_, _/_, _%_, _^_, _≤_, _<_}
+use Prim.Native.Nat.{ℕ, zero, suc, _+_, _-_, _*_, _/_, _%_, _^_, _≤_, _<_}
 use native.Mathlib.Nat.{mod-lt, mod-one, mod-eq-of-lt, div-eq-of-lt, add-zero, le-of-suc-le, lt-of-lt-of-le, le-of-suc-le-suc, not-suc-le-zero, mul-one, mul-mod-left, pow-suc}
 use native.Mathlib.Nat as N
 use native.Mathlib.Numerals.{add-one}
 use native.Mathlib.Omega.{arith}
 use lib.Dec.{lit<, lit≤}
-use lib.Pow.{pow-pos, pow-mono, shl-lt, shl-shr, mod-pow-add}
+use lib.Pow.{pow-pos, pow-mono, pow-add, pow-lt, shl-lt, shl-shr, mod-pow-add}
 use lib.Bits.{bitXor, xor-comm, xor-zero-r, xor-self, xor-lt, xor-shr, xor-mod, xor-shifted}
 use Rattle.block.specs.FieldLaws.{FieldLaws}
 use Rattle.block.proofs.Bits.{bit-cases, bit-lt, xor-half, xor-bit, xor-assoc, xor-cancel, xor-swap, xor-shl}
@@ -204,6 +204,26 @@ mul-comm {a} {b} ha hb = ap (mul a) (sym (mul-one-r hb)) ∙ mul-left-comm a b 1
 
 pub mul-assoc : {a b c : ℕ} → a < 2 ^ 128 → b < 2 ^ 128 → c < 2 ^ 128 → mul (mul a b) c ≡ mul a (mul b c)
 mul-assoc {a} {b} {c} ha hb hc = mul-comm (mul-lt a hb) hc ∙ mul-left-comm c a b ∙ ap (mul a) (mul-comm hc hb)
+
+-- below a smaller power of two
+pub below : {n : ℕ} (j : ℕ) → n < 2 ^ j → j ≤ 128 → n < 2 ^ 128
+below j h l = lt-of-lt-of-le h (pow-mono {i = j} {j = 128} l)
+
+-- x^k · x^(128 - k) is 87 (hexadecimal)
+x-x¹²⁷ : mul 2 (2 ^ 127) ≡ 0x87
+unfolding mul horner double times
+x-x¹²⁷ = refl
+
+pub x¹²⁸ : (k : ℕ) → 0 < k → k < 128 → mul (2 ^ k) (2 ^ (128 - k)) ≡ 0x87
+x¹²⁸ k pos hk =
+    let before : k ≡ k - 1 + 1 = omega arith in
+    let all : 128 - k + (k - 1) ≡ 127 = omega arith in
+    let y-lt : 2 ^ (128 - k) < 2 ^ (129 - k) = pow-lt {i = 128 - k} {j = 129 - k} (omega arith) in
+    ap (λ (e : ℕ). mul (2 ^ e) (2 ^ (128 - k))) before
+    ∙ ap (λ (x : ℕ). mul x (2 ^ (128 - k))) (pow-add 2 (k - 1) 1 ∙ sym (mul-pow 1 k (pow-lt {i = k - 1} {j = k} (omega arith)) (omega arith) (lit< tt)))
+    ∙ mul-assoc (lit< tt) (pow-lt {i = k - 1} {j = 128} (omega arith)) (pow-lt {i = 128 - k} {j = 128} (omega arith))
+    ∙ ap (mul 2) (mul-pow (k - 1) (129 - k) y-lt (omega arith) (omega arith) ∙ sym (pow-add 2 (128 - k) (k - 1)) ∙ ap (λ (e : ℕ). 2 ^ e) all)
+    ∙ x-x¹²⁷
 
 -- ---- inverses
 

@@ -7,6 +7,8 @@ use native.Mathlib.Numerals.{one-add}
 use native.Mathlib.Omega.{arith}
 use lib.Pow.{pow-pos, shr-lt, split}
 use lib.Bits.{bitXor, bitAnd, xor-self, xor-shr, xor-mod, xor-shifted}
+use Rattle.block.specs.Field.{mul}
+use Rattle.block.proofs.Field.{mul-add}
 use Rattle.block.proofs.Bits.{bit-cases, xor-swap, xor-shl, and-add}
 
 pub record Linear (f : ℕ → ℕ) : Type 0 where
@@ -39,6 +41,10 @@ after {f} {g} lf lg = record { add = λ a b. ap f (lg .add a b) ∙ lf .add (g a
 -- a shift left within a word
 pub word-left : (k : ℕ) → Linear (λ x. x * 2 ^ k % 2 ^ 64)
 word-left k = after (low 64) (left k)
+
+-- the product by an element
+pub mul-linear : (a : ℕ) → Linear (mul a)
+mul-linear a = record { add = mul-add a }
 
 -- ---- two that agree on the bits
 

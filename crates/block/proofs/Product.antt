@@ -1,10 +1,12 @@
--- The product, some bits of the first factor at a time. Assumes nothing.
+-- The product, some bits of the first factor at a time. How many is a parameter, but for a step and what holds after i of them, which
+-- have four. Assumes nothing.
 use mathlib.Core.Path.{_≡_, refl, sym, ap, ap₂, _∙_, subst}
 use mathlib.Core.List.{List}
 use Prim.Native.Nat.{ℕ, _+_, _-_, _*_, _/_, _%_, _^_, _≤_, _<_}
 use native.Mathlib.Nat.{mod-lt, add-zero, mul-one, mul-assoc, mod-eq-of-lt, div-eq-of-lt, lt-of-lt-of-le}
 use native.Mathlib.Omega.{arith}
 use lib.Dec.{lit<, lit≤}
+use lib.Arith.{digits-lt}
 use lib.Pow.{pow-pos, pow-add, pow-lt, pow-mono, shl-lt, shr-lt, shl-shr, split, high}
 use lib.Pow as P
 use lib.Bits.{bitXor, bitOr, xor-block, xor-comm, xor-lt, xor-zero-r, xor-shifted}
@@ -13,18 +15,16 @@ use Rattle.block.specs.Field.{times, double, horner, mul}
 use Rattle.block.specs.Tables.{Multiples}
 use Rattle.block.specs.Value.{value}
 use Rattle.block.proofs.Bits.{xor-assoc}
-use Rattle.block.proofs.Field.{mul-add, add-mul, mul-pow, mul-zero-l, mul-one-l, mul-two-l}
+use Rattle.block.proofs.Field.{mul-add, add-mul, mul-pow, mul-zero-l, mul-one-l, mul-two-l, below, x¹²⁸}
 use Rattle.block.proofs.Field as F
-use Rattle.block.proofs.Linear.{low, after, onBits, agree}
-use Rattle.block.proofs.Squares.{x¹²⁸, mul-linear}
-use Rattle.block.proofs.Words.{left-mod, left-words, high-bits}
+use Rattle.block.proofs.Linear.{low, after, mul-linear, onBits, agree}
+use Rattle.block.proofs.Words.{shl-shl, left-mod, left-words, high-bits}
 
 -- k bits more: those of n behind those of q
-pub more-bits : (j k q n : ℕ) {b : ℕ} → q < 2 ^ j → n < 2 ^ k → j + k ≤ 128 → k < 128 → b < 2 ^ 128
+more-bits : (j k q n : ℕ) {b : ℕ} → q < 2 ^ j → n < 2 ^ k → j + k ≤ 128 → k < 128 → b < 2 ^ 128
     → bitXor (mul (2 ^ k) (mul q b)) (mul n b) ≡ mul (q * 2 ^ k + n) b
 more-bits j k q n {b} hq hn fits hk hb =
-    let q-lt : q < 2 ^ 128 = lt-of-lt-of-le hq (pow-mono {i = j} {j = 128} (omega arith)) in
-    ap (λ (x : ℕ). bitXor x (mul n b)) (sym (F.mul-assoc (pow-lt hk) q-lt hb) ∙ ap (λ (x : ℕ). mul x b) (mul-pow k j hq fits hk))
+    ap (λ (x : ℕ). bitXor x (mul n b)) (sym (F.mul-assoc (pow-lt hk) (below j hq (omega arith)) hb) ∙ ap (λ (x : ℕ). mul x b) (mul-pow k j hq fits hk))
     ∙ sym (add-mul (q * 2 ^ k) n b)
     ∙ ap (λ (x : ℕ). mul x b) (xor-shifted q k n hn)
 
@@ -41,7 +41,7 @@ odd-multiple i {b} h hb =
 
 -- ---- the product by x^k: a shift, and what is pushed out comes back at the low end
 
-module _ (k : ℕ) (e : mul (2 ^ k) (2 ^ (128 - k)) ≡ 0x87) (pos : 0 < k) (hk : k < 128) (x : ℕ) (hx : x < 2 ^ 128) where
+module _ (k : ℕ) (pos : 0 < k) (hk : k < 128) (x : ℕ) (hx : x < 2 ^ 128) where
   abbrev j : ℕ
   j = 128 - k
 
@@ -54,23 +54,19 @@ module _ (k : ℕ) (e : mul (2 ^ k) (2 ^ (128 - k)) ≡ 0x87) (pos : 0 < k) (hk 
   out : mul (2 ^ k) (x / 2 ^ j * 2 ^ j) ≡ mul 0x87 (x / 2 ^ j)
   out =
       ap (mul (2 ^ k)) (sym (mul-pow j k out-lt (omega arith) (omega arith)))
-      ∙ sym (F.mul-assoc (pow-lt hk) (pow-lt {i = j} {j = 128} (omega arith)) (lt-of-lt-of-le out-lt (pow-mono {i = k} {j = 128} (omega arith))))
-      ∙ ap (λ (y : ℕ). mul y (x / 2 ^ j)) e
+      ∙ sym (F.mul-assoc (pow-lt hk) (pow-lt {i = j} {j = 128} (omega arith)) (below k out-lt (omega arith)))
+      ∙ ap (λ (y : ℕ). mul y (x / 2 ^ j)) (x¹²⁸ k pos hk)
 
   stays : mul (2 ^ k) (x % 2 ^ j) ≡ x * 2 ^ k % 2 ^ 128
   stays = mul-pow k j stays-lt (omega arith) hk ∙ sym (left-mod 128 k x (omega arith))
 
-  pub shift-is : bitXor (x * 2 ^ k % 2 ^ 128) (mul 0x87 (x / 2 ^ j)) ≡ mul (2 ^ k) x
+  shift-is : bitXor (x * 2 ^ k % 2 ^ 128) (mul 0x87 (x / 2 ^ j)) ≡ mul (2 ^ k) x
   shift-is =
       ap₂ bitXor (sym stays) (sym out) ∙ xor-comm (mul (2 ^ k) (x % 2 ^ j)) (mul (2 ^ k) (x / 2 ^ j * 2 ^ j))
       ∙ sym (mul-add (2 ^ k) (x / 2 ^ j * 2 ^ j) (x % 2 ^ j))
       ∙ ap (mul (2 ^ k)) (xor-shifted (x / 2 ^ j) j (x % 2 ^ j) stays-lt ∙ split x j)
 
 -- ---- a step
-
-x⁴x¹²⁴ : mul (2 ^ 4) (2 ^ 124) ≡ 0x87
-unfolding mul horner double times
-x⁴x¹²⁴ = refl
 
 -- what four bits leave is a word
 abbrev lowWord : ℕ → ℕ
@@ -86,24 +82,24 @@ reduction-lt n h =
     (mod-lt (mul 0x87 n) (lit< tt))
 
 -- of the words h and l; r is the reduction of the four bits pushed out, mh and ml the multiple
-pub step-words : (h l r mh ml : ℕ) → h < 2 ^ 64 → l < 2 ^ 64 → ml < 2 ^ 64 → h * 2 ^ 64 + l < 2 ^ 128 → r ≡ mul 0x87 (h / 2 ^ 60)
+pub step-words : (h l r mh ml : ℕ) → h < 2 ^ 64 → l < 2 ^ 64 → ml < 2 ^ 64 → r ≡ mul 0x87 (h / 2 ^ 60)
     → bitXor (bitOr (h * 16 % 2 ^ 64) (l / 2 ^ 60)) mh * 2 ^ 64 + bitXor (bitXor (l * 16 % 2 ^ 64) r) ml
     ≡ bitXor (mul 16 (h * 2 ^ 64 + l)) (mh * 2 ^ 64 + ml)
-step-words h l r mh ml hh hl hm hx e =
+step-words h l r mh ml hh hl hm e =
     let x = h * 2 ^ 64 + l in
     let hr : r < 2 ^ 64 = subst (λ (n : ℕ). n < 2 ^ 64) (sym e) (reduction-lt (h / 2 ^ 60) (shr-lt 4 60 hh)) in
     sym (xor-block 64 (bitOr (h * 16 % 2 ^ 64) (l / 2 ^ 60)) mh (bitXor (l * 16 % 2 ^ 64) r) ml (xor-lt 64 (l * 16 % 2 ^ 64) r (mod-lt (l * 16) (lit< tt)) hr) hm)
     ∙ ap (λ (y : ℕ). bitXor y (mh * 2 ^ 64 + ml))
     (left-words 4 h l (lit≤ tt) hl r hr
     ∙ ap (bitXor (x * 16 % 2 ^ 128)) (e ∙ ap (mul 0x87) (sym (high-bits 60 h l hl)))
-    ∙ shift-is 4 x⁴x¹²⁴ (lit< tt) (lit< tt) x hx)
+    ∙ shift-is 4 (lit< tt) (lit< tt) x (digits-lt {m = 2 ^ 64} {c = 2 ^ 64} hh hl))
 
 -- ---- the words' products together
 
 -- p's words are h and l
-pub join-words : (h l qh ql : ℕ) → l < 2 ^ 64 → ql < 2 ^ 64 → h * 2 ^ 64 + l < 2 ^ 128
+pub join-words : (h l qh ql : ℕ) → h < 2 ^ 64 → l < 2 ^ 64 → ql < 2 ^ 64
     → bitXor (mul 0x87 h) (bitXor l qh * 2 ^ 64 + ql) ≡ bitXor (mul (2 ^ 64) (h * 2 ^ 64 + l)) (qh * 2 ^ 64 + ql)
-join-words h l qh ql hl hq hx =
+join-words h l qh ql hh hl hq =
     let x = h * 2 ^ 64 + l in
     let q = qh * 2 ^ 64 + ql in
     let stays : l * 2 ^ 64 ≡ x * 2 ^ 64 % 2 ^ 128 = sym (left-mod 128 64 x (lit≤ tt) ∙ ap (λ (y : ℕ). y * 2 ^ 64) (P.low h 64 hl)) in
@@ -111,7 +107,7 @@ join-words h l qh ql hl hq hx =
     ∙ sym (xor-assoc (mul 0x87 h) (l * 2 ^ 64) q)
     ∙ ap (λ (y : ℕ). bitXor y q)
     (xor-comm (mul 0x87 h) (l * 2 ^ 64) ∙ ap₂ bitXor stays (ap (mul 0x87) (sym (high h 64 hl)))
-    ∙ shift-is 64 x¹²⁸ (lit< tt) (lit< tt) x hx)
+    ∙ shift-is 64 (lit< tt) (lit< tt) x (digits-lt {m = 2 ^ 64} {c = 2 ^ 64} hh hl))
 
 -- ---- a word after i steps
 
@@ -133,13 +129,8 @@ chain-start t w h = record {
 next-taken : (n : ℕ) → n / 2 ^ 64 * 16 + n % 2 ^ 64 / 2 ^ 60 ≡ n * 16 / 2 ^ 64
 next-taken n = omega arith
 
-next-rest : (n : ℕ) → n % 2 ^ 64 * 16 % 2 ^ 64 ≡ n * 16 % 2 ^ 64
-next-rest n = omega arith
-
-four-more : (w i : ℕ) → w * 2 ^ (4 * i) * 16 ≡ w * 2 ^ (4 * (i + 1))
-four-more w i =
-    let e : 4 * i + 4 ≡ 4 * (i + 1) = omega arith in
-    mul-assoc w (2 ^ (4 * i)) 16 ∙ ap (λ (x : ℕ). w * x) (sym (pow-add 2 (4 * i) 4)) ∙ ap (λ (k : ℕ). w * 2 ^ k) e
+four-more : (i : ℕ) → 4 * i + 4 ≡ 4 * (i + 1)
+four-more i = omega arith
 
 pub chain-next : (t : List ℕ) (w i : ℕ) (s : Block) (u : ℕ) (m r : Block) → i < 16 → Chain t w i s u
     → ((b : ℕ) → Multiples 16 b t → value m ≡ mul (u / 2 ^ 60) b) → value r ≡ bitXor (mul 16 (value s)) (value m)
@@ -153,9 +144,10 @@ chain-next t w i s u m r hi c em er = record {
       er
       ∙ ap₂ (λ (x y : ℕ). bitXor (mul 16 x) y) (c .so-far b hb all) (em b all ∙ ap (λ (x : ℕ). mul (x / 2 ^ 60) b) (c .rest))
       ∙ more-bits 64 4 (n / 2 ^ 64) (n % 2 ^ 64 / 2 ^ 60) (shr-lt 64 64 n-lt) (shr-lt 4 60 (mod-lt n (lit< tt))) (lit≤ tt) (lit< tt) hb
-      ∙ ap (λ (x : ℕ). mul x b) (next-taken n ∙ ap (λ (x : ℕ). x / 2 ^ 64) (four-more w i));
-  rest =
-      ap (λ (x : ℕ). x * 16 % 2 ^ 64) (c .rest) ∙ next-rest (w * 2 ^ (4 * i)) ∙ ap (λ (x : ℕ). x % 2 ^ 64) (four-more w i);
+      ∙ ap (λ (x : ℕ). mul x b)
+      (next-taken n
+      ∙ ap (λ (x : ℕ). x / 2 ^ 64) (mul-assoc w (2 ^ (4 * i)) 16 ∙ ap (λ (x : ℕ). w * x) (sym (pow-add 2 (4 * i) 4)) ∙ ap (λ (e : ℕ). w * 2 ^ e) (four-more i)));
+  rest = ap (λ (x : ℕ). x * 16 % 2 ^ 64) (c .rest) ∙ shl-shl w (4 * i) 4 ∙ ap (λ (e : ℕ). w * 2 ^ e % 2 ^ 64) (four-more i);
 }
 
 -- after sixteen

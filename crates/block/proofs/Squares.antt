@@ -1,17 +1,17 @@
 -- Squares, word by word. Assumes nothing.
 use mathlib.Core.Path.{_≡_, refl, sym, ap, ap₂, _∙_, subst}
 use Prim.Native.Nat.{ℕ, _+_, _*_, _/_, _%_, _^_, _≤_, _<_}
-use native.Mathlib.Nat.{mod-lt, mod-eq-of-lt, lt-of-lt-of-le, lt-of-le-of-lt}
+use native.Mathlib.Nat.{mod-lt, mod-eq-of-lt, lt-of-le-of-lt}
 use native.Mathlib.Omega.{arith}
 use lib.Dec.{lit<, lit≤}
 use lib.Arith.{digits-lt}
-use lib.Pow.{pow-mono, pow-lt, shr-lt, shr-le, split}
+use lib.Pow.{pow-lt, shr-lt, shr-le, split}
 use lib.Pow as P
 use lib.Bits.{bitXor, bitAnd, xor-lt, xor-mod, xor-shifted}
 use Rattle.block.specs.Field.{times, double, horner, mul}
 use Rattle.block.proofs.Bits.{xor-assoc, xor-cancel}
-use Rattle.block.proofs.Field.{mul-lt, mul-add, add-mul, mul-pow, mul-comm, mul-assoc, mul-left-comm}
-use Rattle.block.proofs.Linear.{Linear, same, right, low, left, mask, sum, after, word-left, onBits, agree}
+use Rattle.block.proofs.Field.{mul-lt, mul-add, add-mul, mul-pow, mul-comm, mul-assoc, mul-left-comm, below, x¹²⁸}
+use Rattle.block.proofs.Linear.{Linear, same, right, low, left, mask, sum, after, word-left, mul-linear, onBits, agree}
 
 -- ---- the square of a sum
 
@@ -31,10 +31,10 @@ module _ (j k u v : ℕ) (hu : u < 2 ^ j) (hv : v < 2 ^ k) (fits : j + k ≤ 128
   xᵏ-lt = pow-lt hk
 
   u-lt : u < 2 ^ 128
-  u-lt = lt-of-lt-of-le hu (pow-mono {i = j} {j = 128} (omega arith))
+  u-lt = below j hu (omega arith)
 
   v-lt : v < 2 ^ 128
-  v-lt = lt-of-lt-of-le hv (pow-mono {i = k} {j = 128} (omega arith))
+  v-lt = below k hv (omega arith)
 
   shifted : mul xᵏ u ≡ u * 2 ^ k
   shifted = mul-pow k j hu fits hk
@@ -79,7 +79,7 @@ abbrev squareLow : ℕ → ℕ
 squareLow x = mul (x % 2 ^ 32) (x % 2 ^ 32)
 
 low-lt : (x : ℕ) → x % 2 ^ 32 < 2 ^ 128
-low-lt x = lt-of-lt-of-le (mod-lt x (lit< tt)) (lit≤ tt)
+low-lt x = below 32 (mod-lt x (lit< tt)) (lit≤ tt)
 
 squareLow-linear : Linear squareLow
 squareLow-linear = record { add = λ a b. ap (λ (x : ℕ). mul x x) (xor-mod a b 32) ∙ square-add (low-lt a) (low-lt b) }
@@ -109,15 +109,11 @@ word-square w {r} {s} hw hr hs er es =
 
 -- ---- a block
 
-pub x¹²⁸ : mul (2 ^ 64) (2 ^ 64) ≡ 0x87
-unfolding mul horner double times
-x¹²⁸ = refl
-
 -- from the squares of its words
 pub block-square : (h l : ℕ) → h < 2 ^ 64 → l < 2 ^ 64
     → bitXor (mul 0x87 (mul h h)) (mul l l) ≡ mul (h * 2 ^ 64 + l) (h * 2 ^ 64 + l)
 block-square h l hh hl =
-    ap (λ (x : ℕ). bitXor (mul x (mul h h)) (mul l l)) (sym x¹²⁸)
+    ap (λ (x : ℕ). bitXor (mul x (mul h h)) (mul l l)) (sym (x¹²⁸ 64 (lit< tt) (lit< tt)))
     ∙ sym (square-parts 64 64 h l hh hl (lit≤ tt) (lit< tt))
 
 -- ---- the product by 0x87
@@ -158,9 +154,6 @@ product-linear : Linear product
 product-linear =
     sum (after (left 64) (sum (after kept-linear (right 64)) (after pushedOut-linear (low 64))))
     (after kept-linear (sum (low 64) (after pushedOut-linear (right 64))))
-
-pub mul-linear : (a : ℕ) → Linear (mul a)
-mul-linear a = record { add = mul-add a }
 
 product-bits : onBits product 128 ≡ onBits (mul 0x87) 128
 unfolding mul horner double times

@@ -19,7 +19,7 @@ use Rattle.block.proofs.Product.{even-multiple, odd-multiple}
 -- ---- the multiples
 
 -- one more
-pub grown : (t : List ℕ) (n b : ℕ) (m : Block) → n < 16 → length t ≡ 32 → Multiples n b t → value m ≡ mul n b
+grown : (t : List ℕ) (n b : ℕ) (m : Block) → n < 16 → length t ≡ 32 → Multiples n b t → value m ≡ mul n b
     → Multiples (n + 1) b (set (set t n (m .hi)) (n + 16) (m .lo))
 unfolding Multiples multipleAt value
 grown t n b m hn len all e j h = pick (ℕ-discrete j n)
@@ -69,7 +69,7 @@ two-multiples b = grown (replicate 32 0) 1 (value b) b (lit< tt) refl (no-multip
 -- ---- the reductions
 
 -- the values of f, from n on
-abbrev pub values : (ℕ → ℕ) → ℕ → ℕ → List ℕ
+abbrev values : (ℕ → ℕ) → ℕ → ℕ → List ℕ
 values f n zero = []
 values f n (suc k) = f n ∷ values f (suc n) k
 

@@ -1,37 +1,26 @@
 -- Undoing the products by x and by 1 + x. Assumes nothing.
 use mathlib.Core.Path.{_≡_, refl, sym, ap, ap₂, _∙_}
 use Prim.Native.Nat.{ℕ, _+_, _*_, _/_, _%_, _^_, _<_}
-use native.Mathlib.Nat.{mod-lt, zero-add, add-zero, mul-assoc, mul-mod-left, div-add-mod', mul-add-mod-self-right, add-mul, mul-right-comm, lt-of-lt-of-le}
+use native.Mathlib.Nat.{mod-lt, zero-add, mul-mod-left, div-add-mod', lt-of-lt-of-le}
 use native.Mathlib.Omega.{arith}
 use lib.Dec.{lit<, lit≤}
-use lib.Pow.{pow-add, shr-lt, shl-shr, mod-pow-add}
+use lib.Pow.{shr-lt}
 use lib.Arith.{digits-lt}
-use lib.Bits.{bitXor, bitOr, bitAnd, xor-block, xor-comm, xor-zero-r, xor-self, xor-lt, xor-mod, or-shifted, xor-shifted}
-use Rattle.block.proofs.Bits.{bit-cases, bit-lt, xor-assoc, xor-swap, xor-shl, xor-cancel-r}
+use lib.Bits.{bitXor, bitOr, bitAnd, xor-block, xor-comm, xor-zero-r, xor-self, xor-lt, xor-shifted}
+use Rattle.block.proofs.Bits.{bit-cases, bit-lt, xor-assoc, xor-swap, xor-cancel-r}
 use Rattle.block.specs.Field.{times, double, horner, mul, x⁻¹, 1⊕x⁻¹}
 use Rattle.block.proofs.Field.{times-lt, mul-add, mul-two-l, mul-three-l, double-add, double-small, x⁻¹-inverse, 1⊕x⁻¹-inverse}
-use Rattle.block.proofs.Words.{ones, under-mask, left-mod, left-block, high-bits}
+use Rattle.block.proofs.Words.{ones, under-mask, shl-shl, left-mod, left-block, upper-word, high-bits}
+use Rattle.block.proofs.Linear.{word-left}
 
 -- ---- a word and its shift by k
-
-mod-times : (x k m : ℕ) → x % m * k % m ≡ x * k % m
-mod-times x k m =
-    sym
-    (ap (λ (y : ℕ). y * k % m) (sym (div-add-mod' x m))
-    ∙ ap (λ (y : ℕ). y % m) (add-mul (x / m * m) (x % m) k ∙ ap (λ (y : ℕ). y + x % m * k) (mul-right-comm (x / m) m k))
-    ∙ mul-add-mod-self-right (x / m * k) m (x % m * k))
 
 -- x ⊕ (x << k), in 64 bits
 abbrev over : ℕ → ℕ → ℕ
 over k x = bitXor x (x * 2 ^ k % 2 ^ 64)
 
 shl-add : (a b k : ℕ) → bitXor a b * 2 ^ k % 2 ^ 64 ≡ bitXor (a * 2 ^ k % 2 ^ 64) (b * 2 ^ k % 2 ^ 64)
-shl-add a b k = ap (λ (x : ℕ). x % 2 ^ 64) (xor-shl a b k) ∙ xor-mod (a * 2 ^ k) (b * 2 ^ k) 64
-
-shl-shl : (x j k : ℕ) → x * 2 ^ j % 2 ^ 64 * 2 ^ k % 2 ^ 64 ≡ x * 2 ^ (j + k) % 2 ^ 64
-shl-shl x j k =
-    mod-times (x * 2 ^ j) (2 ^ k) (2 ^ 64)
-    ∙ ap (λ (y : ℕ). y % 2 ^ 64) (mul-assoc x (2 ^ j) (2 ^ k) ∙ ap (λ (y : ℕ). x * y) (sym (pow-add 2 j k)))
+shl-add a b k = word-left k .add a b
 
 spread : (j k x : ℕ) → over j (over k x) ≡ bitXor (bitXor x (x * 2 ^ k % 2 ^ 64)) (bitXor (x * 2 ^ j % 2 ^ 64) (x * 2 ^ (k + j) % 2 ^ 64))
 spread j k x = ap (bitXor (over k x)) (shl-add x (x * 2 ^ k % 2 ^ 64) j ∙ ap (bitXor (x * 2 ^ j % 2 ^ 64)) (shl-shl x k j))
@@ -159,13 +148,6 @@ halved : (q : ℕ) → q < 2 → double (times q 0x8000_0000_0000_0000 * 2 ^ 64 
 unfolding double times
 halved = bit-cases (λ (q : ℕ). double (times q 0x8000_0000_0000_0000 * 2 ^ 64 + times q 0x43) ≡ q) refl refl
 
--- a word with the lowest bit of the word before it
-rotated : (a b : ℕ) → b < 2 ^ 64 → bitOr (a * 2 ^ 63 % 2 ^ 64) (b / 2) ≡ a % 2 * 2 ^ 63 + b / 2
-rotated a b h =
-    let e : a * 2 ^ 63 % 2 ^ 64 ≡ a % 2 * 2 ^ 63 =
-    mod-pow-add (a * 2 ^ 63) 1 63 ∙ ap₂ (λ (x y : ℕ). x % 2 * 2 ^ 63 + y) (shl-shr a 63) (mul-mod-left a (2 ^ 63)) ∙ add-zero (a % 2 * 2 ^ 63) in
-    ap (λ (x : ℕ). bitOr x (b / 2)) e ∙ or-shifted (a % 2) 63 (b / 2) (shr-lt 63 1 h)
-
 top : (q : ℕ) → q < 2 → q * 2 ^ 63 ≡ times q 0x8000_0000_0000_0000
 unfolding times
 top = bit-cases (λ (q : ℕ). q * 2 ^ 63 ≡ times q 0x8000_0000_0000_0000) refl refl
@@ -214,12 +196,12 @@ module _ (hi lo m : ℕ) (hh : hi < 2 ^ 64) (hl : lo < 2 ^ 64) (em : m ≡ times
 
   high-word : bitOr (lo * 2 ^ 63 % 2 ^ 64) (hi / 2) ≡ bitXor (hi / 2) high
   high-word =
-      rotated lo hi hh ∙ sym (xor-shifted p 63 (hi / 2) (shr-lt 63 1 hh))
+      upper-word 63 lo hi (lit≤ tt) hh ∙ sym (xor-shifted p 63 (hi / 2) (shr-lt 63 1 hh))
       ∙ ap (λ (x : ℕ). bitXor x (hi / 2)) (top p p-lt) ∙ xor-comm high (hi / 2)
 
   pub undone-double : bitOr (lo * 2 ^ 63 % 2 ^ 64) (hi / 2) * 2 ^ 64 + bitXor (bitOr (hi * 2 ^ 63 % 2 ^ 64) (lo / 2)) (bitAnd m 0x43)
       ≡ mul x⁻¹ (hi * 2 ^ 64 + lo)
   undone-double =
-      ap₂ (λ (x y : ℕ). x * 2 ^ 64 + y) high-word (ap₂ bitXor (rotated hi lo hl) (under-mask p em (lit< tt)))
+      ap₂ (λ (x y : ℕ). x * 2 ^ 64 + y) high-word (ap₂ bitXor (upper-word 63 hi lo (lit≤ tt) hl) (under-mask p em (lit< tt)))
       ∙ sym (xor-block 64 (hi / 2) high (hi % 2 * 2 ^ 63 + lo / 2) low low-small low-lt)
       ∙ sym (x⁻¹-inverse undone-lt) ∙ ap (mul x⁻¹) doubled

@@ -2,10 +2,10 @@
 use mathlib.Core.Path.{_≡_, refl, sym, ap, ap₂, _∙_, subst}
 use mathlib.Core.Bool.{Bool, true, false}
 use Prim.Native.Nat.{ℕ, zero, suc, _+_, _-_, _*_, _/_, _%_, _^_, _≤_, _<_}
-use native.Mathlib.Nat.{mod-lt, mod-eq-of-lt, lt-of-le-of-lt, zero-add, add-zero, add-mul, mul-right-comm, mul-add-div-right, mul-add-mod-self-right}
+use native.Mathlib.Nat.{mod-lt, mod-eq-of-lt, lt-of-le-of-lt, zero-add, add-zero, add-mul, mul-assoc, mul-right-comm, div-add-mod', mul-add-div-right, mul-add-mod-self-right}
 use native.Mathlib.Omega.{arith}
 use lib.Dec.{eqb, lit<, lit≤}
-use lib.Pow.{high, low, pow-pos, mod-pow-add, shl-shr, shr-shr, shr-lt}
+use lib.Pow.{high, low, pow-pos, pow-add, mod-pow-add, shl-shr, shr-shr, shr-lt}
 use lib.Bits.{bitXor, bitOr, bitAnd, xor-block, xor-zero-r, or-shifted, and-comm, and-mask, and-le-r}
 use borrow.Author.Tests.{eqb-true, eqb-false, eq-eqb, ne-eqb}
 use Rattle.block.specs.Field.{times, double}
@@ -41,6 +41,19 @@ pub left-mod : (w k h : ℕ) → k ≤ w → h * 2 ^ k % 2 ^ w ≡ h % 2 ^ (w - 
 left-mod w k h hk =
     ap (λ (x : ℕ). x % 2 ^ w) (sym (add-zero (h * 2 ^ k))) ∙ left-joined w k h 0 hk (pow-pos k) ∙ add-zero (h % 2 ^ (w - k) * 2 ^ k)
 
+-- one after the other
+mod-times : (x k m : ℕ) → x % m * k % m ≡ x * k % m
+mod-times x k m =
+    sym
+    (ap (λ (y : ℕ). y * k % m) (sym (div-add-mod' x m))
+    ∙ ap (λ (y : ℕ). y % m) (add-mul (x / m * m) (x % m) k ∙ ap (λ (y : ℕ). y + x % m * k) (mul-right-comm (x / m) m k))
+    ∙ mul-add-mod-self-right (x / m * k) m (x % m * k))
+
+pub shl-shl : (x j k : ℕ) → x * 2 ^ j % 2 ^ 64 * 2 ^ k % 2 ^ 64 ≡ x * 2 ^ (j + k) % 2 ^ 64
+shl-shl x j k =
+    mod-times (x * 2 ^ j) (2 ^ k) (2 ^ 64)
+    ∙ ap (λ (y : ℕ). y % 2 ^ 64) (mul-assoc x (2 ^ j) (2 ^ k) ∙ ap (λ (y : ℕ). x * y) (sym (pow-add 2 j k)))
+
 -- what it does to two words, h and l
 module _ (k h l : ℕ) (hk : k ≤ 64) (hl : l < 2 ^ 64) where
   parts : 64 ≡ k + (64 - k)
@@ -54,8 +67,8 @@ module _ (k h l : ℕ) (hk : k ≤ 64) (hl : l < 2 ^ 64) where
   carry-lt : l / 2 ^ (64 - k) < 2 ^ k
   carry-lt = shr-lt k (64 - k) (subst (λ (e : ℕ). l < 2 ^ e) parts hl)
 
-  upper : bitOr (h * 2 ^ k % 2 ^ 64) (l / 2 ^ (64 - k)) ≡ h % 2 ^ (64 - k) * 2 ^ k + l / 2 ^ (64 - k)
-  upper = ap (λ (x : ℕ). bitOr x (l / 2 ^ (64 - k))) (left-mod 64 k h hk) ∙ or-shifted (h % 2 ^ (64 - k)) k (l / 2 ^ (64 - k)) carry-lt
+  pub upper-word : bitOr (h * 2 ^ k % 2 ^ 64) (l / 2 ^ (64 - k)) ≡ h % 2 ^ (64 - k) * 2 ^ k + l / 2 ^ (64 - k)
+  upper-word = ap (λ (x : ℕ). bitOr x (l / 2 ^ (64 - k))) (left-mod 64 k h hk) ∙ or-shifted (h % 2 ^ (64 - k)) k (l / 2 ^ (64 - k)) carry-lt
 
   regroup : (h * 2 ^ 64 + l) * 2 ^ k ≡ h * 2 ^ k * 2 ^ 64 + l * 2 ^ k
   regroup = add-mul (h * 2 ^ 64) l (2 ^ k) ∙ ap (λ (x : ℕ). x + l * 2 ^ k) (mul-right-comm h (2 ^ 64) (2 ^ k))
@@ -73,7 +86,7 @@ module _ (k h l : ℕ) (hk : k ≤ 64) (hl : l < 2 ^ 64) where
       → bitOr (h * 2 ^ k % 2 ^ 64) (l / 2 ^ (64 - k)) * 2 ^ 64 + bitXor (l * 2 ^ k % 2 ^ 64) r ≡ bitXor ((h * 2 ^ 64 + l) * 2 ^ k % 2 ^ 128) r
   left-words r hr =
       let u = h % 2 ^ (64 - k) * 2 ^ k + l / 2 ^ (64 - k) in
-      ap (λ (x : ℕ). x * 2 ^ 64 + bitXor (l * 2 ^ k % 2 ^ 64) r) (upper ∙ sym (xor-zero-r u))
+      ap (λ (x : ℕ). x * 2 ^ 64 + bitXor (l * 2 ^ k % 2 ^ 64) r) (upper-word ∙ sym (xor-zero-r u))
       ∙ sym (xor-block 64 u 0 (l * 2 ^ k % 2 ^ 64) r (mod-lt (l * 2 ^ k) (lit< tt)) hr)
       ∙ ap₂ bitXor (sym left-block) (zero-add r)
 

@@ -3,7 +3,6 @@ use Prim.Native.Nat.{ℕ, _+_, _*_, _^_}
 use native.Mathlib.Nat.{zero-add}
 use borrow.Author.Needs.{needs}
 use native.Mathlib.Omega.{arith}
-use lib.Arith.{digits-lt}
 use lib.Bits.{bitXor}
 use Rattle.block.specs.Field.{mul}
 use Rattle.block.specs.Value.{value}
@@ -24,7 +23,7 @@ returns c =
     let q = c .before .before .before .before .args .q in
     c .xor .ensures
     ∙ ap (λ (x : ℕ). bitXor x (bitXor (p .lo) (q .hi) * 2 ^ 64 + q .lo)) (c .before .before .before .times-87 .ensures ∙ ap (mul 0x87) (zero-add (p .hi)))
-    ∙ join-words (p .hi) (p .lo) (q .hi) (q .lo) (omega arith) (omega arith) (digits-lt {m = 2 ^ 64} {c = 2 ^ 64} (omega arith) (omega arith))
+    ∙ join-words (p .hi) (p .lo) (q .hi) (q .lo) (omega arith) (omega arith) (omega arith)
 
 pub join-spec : {M : Type 1} → statement M
 join-spec = tie.close (tie.spec times-87-requires xor-requires returns)

@@ -29,13 +29,13 @@ multiple-requires : tie.Need-multiple-requires Inv-loop μ-loop
 multiple-requires c κs = search needs
 
 step-requires : tie.Need-step-requires Inv-loop μ-loop
-step-requires c κs = c .before .before .before .before .before .reductions .ensures
+step-requires c κs = search needs
 
 multiple-requires-2 : tie.Need-multiple-requires-2 Inv-loop μ-loop
 multiple-requires-2 c κs = search needs
 
 step-requires-2 : tie.Need-step-requires-2 Inv-loop μ-loop
-step-requires-2 c κs = c .before .before .before .before .before .before .before .before .before .reductions .ensures
+step-requires-2 c κs = search needs
 
 add-i : tie.Need-add-i Inv-loop μ-loop
 add-i c = search needs

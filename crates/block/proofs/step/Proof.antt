@@ -1,7 +1,6 @@
 use borrow.Author.Needs.{needs}
 use Prim.Native.Nat.{_/_, _^_}
 use native.Mathlib.Omega.{arith}
-use lib.Arith.{digits-lt}
 use Rattle.block.specs.Tables.{Reductions}
 use Rattle.block.specs.Value.{value}
 use Rattle.block.proofs.Product.{step-words}
@@ -21,7 +20,7 @@ returns c =
     let s = start .args .s in
     let m = start .args .m in
     step-words (s .hi) (s .lo) _ (m .hi) (m .lo) (omega arith) (omega arith) (omega arith)
-    (digits-lt {m = 2 ^ 64} {c = 2 ^ 64} (omega arith) (omega arith)) (start .pre (s .hi / 2 ^ 60) (omega arith))
+    (start .pre (s .hi / 2 ^ 60) (omega arith))
 
 pub step-spec : {M : Type 1} → statement M
 step-spec = tie.close (tie.spec mul-t10 element-copy-out-t13 returns)
