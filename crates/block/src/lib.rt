@@ -89,7 +89,7 @@ pub fn undo_triple(c: Block) -> Block
     }
 }
 
-// The sixteen multiples of b, four bits' worth: j * b has its high word at j and its low word at 16 + j, so that a lookup needs no shift.
+// The sixteen multiples of b: j * b has its high word at j and its low word at 16 + j, so that a lookup needs no multiplication of j.
 fn multiples(b: Block) -> [u64; 32]
     ensures { λ r. ⌜ Multiples 16 (value b) r ⌝ }
 {
@@ -125,7 +125,7 @@ fn multiple(t: &[u64; 32], w: u64) -> Block
     }
 }
 
-// What four bits leave when they are pushed out: entry n is n * x^128.
+// What four bits n leave when they are pushed out: n * x^128.
 const REDUCTIONS: [u64; 16] = [
     0x000,
     0x087,
@@ -176,7 +176,7 @@ fn join(p: Block, q: Block) -> Block
     xor(high, low)
 }
 
-// The product, four bits of each word of a at a time, the highest first. The two words take turns, as neither waits for the other.
+// The product, four bits of each word of a at a time, the highest first. The two words take turns, since neither waits for the other.
 pub fn mul(a: Block, b: Block) -> Block
     ensures { λ r. ⌜ value r ≡ F.mul (value a) (value b) ⌝ }
 {
