@@ -46,7 +46,7 @@ uint64_t bench_mul(uint64_t ahi, uint64_t alo, uint64_t bhi, uint64_t blo, uint6
 #define FACTORS factors[0], factors[1], factors[2], factors[3]
 static void product_before(result *r, unsigned long times) { r->answer = 0, r->product = before_bench_mul(FACTORS, times); }
 static void product_now(result *r, unsigned long times) { r->answer = 0, r->product = bench_mul(FACTORS, times); }
-static void product_plain(result *r, unsigned long times) { r->answer = 0, r->product = plain_mul(FACTORS, times); }
+static void product_plain(result *r, unsigned long times) { r->answer = 0, r->product = plain_mul_chain(FACTORS, times); }
 
 // The plaintext, at the address 0.
 #define SEALED plain, v.s, r->local, v.s, r->tag, sizeof r->tag, r->remote, v.s
@@ -124,8 +124,8 @@ static void fill(void *to, size_t n) {
     }
 }
 
-// ---- A row is CALL:DAMAGE:SIZE:COUNT, such as survey:third:512:1024. DAMAGE is whole or third. A product looks at no volume, and a seal
-// or a judgement is of one sector.
+// ---- A row is CALL:DAMAGE:SIZE:COUNT, such as survey:third:512:1024. DAMAGE is whole or, for a survey, third. A product looks at no
+// volume, and a seal or a judgement is of one sector.
 
 static void seal(size_t i, const uint8_t *p) {
     size_t at = i * v.s;
@@ -167,6 +167,7 @@ static const call *make_row(const char *row) {
          2, "'%s' is no row: it is CALL:DAMAGE:SIZE:COUNT, such as survey:third:512:1024, and DAMAGE is whole or third", row);
     while (c < CALLS && strcmp(name, calls[c].name)) c++;
     must(c < CALLS, 2, "'%s' has a call that is not in the table", row);
+    must(calls[c].counts || *damage == 'w', 2, "'%s': only a survey has damaged sectors", row);
     make_volume(s, n, *damage == 't');
     return &calls[c];
 }
@@ -244,18 +245,19 @@ static void widen(range *r, double x) {
 static void time_row(const char *row, int runs) {
     static result to;
     static const range none = {1e18, 0};
-    range best[SIDES] = {none, none, none}, ratio[2] = {none, none};
+    double best[SIDES] = {1e18, 1e18, 1e18};
+    range ratio[2] = {none, none};
     const call *c = make_row(row);
     check(row, c);
     for (int j = 0; j < runs; j++) {
         double ns[SIDES];
         run_once(c, &to, ns);
-        for (int k = 0; k < SIDES; k++) widen(&best[k], ns[k]);
+        for (int k = 0; k < SIDES; k++) best[k] = ns[k] < best[k] ? ns[k] : best[k];
         widen(&ratio[0], ns[NOW] / ns[BEFORE]), widen(&ratio[1], ns[NOW] / ns[PLAIN]);
     }
-    double ns = best[NOW].least, unit = ns < 1e3 ? 1 : ns < 1e6 ? 1e3 : 1e6;
+    double ns = best[NOW], unit = ns < 1e3 ? 1 : ns < 1e6 ? 1e3 : 1e6;
     printf("| %s |", row);
-    for (int k = 0; k < SIDES; k++) printf(" %.2f %s |", best[k].least / unit, unit == 1 ? "ns" : unit == 1e3 ? "µs" : "ms");
+    for (int k = 0; k < SIDES; k++) printf(" %.2f %s |", best[k] / unit, unit == 1 ? "ns" : unit == 1e3 ? "µs" : "ms");
     for (int k = 0; k < 2; k++) printf(" %.2f–%.2f |", ratio[k].least, ratio[k].greatest);
     printf("\n"), fflush(stdout);
 }

@@ -1,4 +1,4 @@
-// Times the proved Rattle code (crates/bench) against plain C of the same algorithms.
+// Times the proved Rattle code (crates/bench) against plain C of the same functions.
 // First both sides run on many random inputs and must agree. Then they run by turns, and the best time of each counts.
 #include "leaves.h"
 

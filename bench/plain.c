@@ -29,7 +29,7 @@ static const block over_x = {0x8000000000000000, 0x43};
 
 void plain_start(void) { make_table(); }
 
-uint64_t plain_mul(uint64_t ahi, uint64_t alo, uint64_t bhi, uint64_t blo, uint64_t n) {
+uint64_t plain_mul_chain(uint64_t ahi, uint64_t alo, uint64_t bhi, uint64_t blo, uint64_t n) {
     block a = {ahi, alo}, b = {bhi, blo};
     while (n--) a = mul(a, b);
     return a.hi ^ a.lo;

@@ -20,7 +20,7 @@ typedef struct {
 void plain_start(void);
 
 // A chain of n products by b, the first of a: the ⊕ of the last one's two words, as bench_mul in crates/bench.
-uint64_t plain_mul(uint64_t ahi, uint64_t alo, uint64_t bhi, uint64_t blo, uint64_t n);
+uint64_t plain_mul_chain(uint64_t ahi, uint64_t alo, uint64_t bhi, uint64_t blo, uint64_t n);
 
 uint32_t plain_seal(slice key, uint64_t volume, uint64_t address, slice plain, slice_mut local, slice_mut remote, slice_mut tag);
 

@@ -138,7 +138,7 @@
 //! bytes, so under one key and one number equal sectors at equal addresses look
 //! equal, and a sector of one volume is accepted in the other. The number is not
 //! secret, and no key. A call does not wipe what it leaves on the stack, and its
-//! time depends on secret bytes. What an attacker can guess or forge is no claim of
+//! time depends on secret bits. What an attacker can guess or forge is no claim of
 //! the library.
 //!
 //! # Memory and threads

@@ -152,7 +152,7 @@ fn reductions() -> [u64; 16]
     REDUCTIONS
 }
 
-// One step of a product: x^4 times s, and the multiple m for the next four bits.
+// One step of a product: x^4 times s, ⊕ the multiple m for the next four bits.
 fn step(r: &[u64; 16], s: Block, m: Block) -> Block
     requires { ⌜ Reductions (now r) ⌝ }
     ensures { λ y. ⌜ value y ≡ bitXor (F.mul 16 (value s)) (value m) ⌝ }
@@ -164,7 +164,7 @@ fn step(r: &[u64; 16], s: Block, m: Block) -> Block
     }
 }
 
-// x^64 times p, and q.
+// x^64 times p, ⊕ q.
 fn join(p: Block, q: Block) -> Block
     ensures { λ r. ⌜ value r ≡ bitXor (F.mul (2 ^ 64) (value p)) (value q) ⌝ }
 {
@@ -176,7 +176,7 @@ fn join(p: Block, q: Block) -> Block
     xor(high, low)
 }
 
-// The product, four bits of each word of a at a time, the highest first. The two words take turns, since neither waits for the other.
+// The product. Each turn takes four bits of each word of a, the highest first: two chains, which do not wait for each other.
 pub fn mul(a: Block, b: Block) -> Block
     ensures { λ r. ⌜ value r ≡ F.mul (value a) (value b) ⌝ }
 {
