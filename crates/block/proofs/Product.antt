@@ -1,5 +1,5 @@
--- The product, some bits of the first factor at a time. How many is a parameter, but for a step and what holds after i of them, which
--- have four. Assumes nothing.
+-- The product, some bits of the first factor at a time: `more-bits` and `shift-is` are over their number. A multiple uses one bit, a step
+-- four, the two words 64. Assumes nothing.
 use mathlib.Core.Path.{_≡_, refl, sym, ap, ap₂, _∙_, subst}
 use mathlib.Core.List.{List}
 use Prim.Native.Nat.{ℕ, _+_, _-_, _*_, _/_, _%_, _^_, _≤_, _<_}

@@ -9,7 +9,7 @@ use Rattle.block.specs.Field.{mul}
 unfoldable pub multipleAt : List ℕ → ℕ → ℕ
 multipleAt t j = getD t j 0 * 2 ^ 64 + getD t (j + 16) 0
 
--- the element at j is j · b, for each j below n, which is at most 16
+-- the element at j is j · b, for each j below n (used with n at most 16)
 unfoldable pub Multiples : ℕ → ℕ → List ℕ → Type 0
 unfolding multipleAt
 Multiples n b t = (j : ℕ) → j < n → multipleAt t j ≡ mul j b
