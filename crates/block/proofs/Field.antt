@@ -209,11 +209,12 @@ mul-assoc {a} {b} {c} ha hb hc = mul-comm (mul-lt a hb) hc ∙ mul-left-comm c a
 pub below : {n : ℕ} (j : ℕ) → n < 2 ^ j → j ≤ 128 → n < 2 ^ 128
 below j h l = lt-of-lt-of-le h (pow-mono {i = j} {j = 128} l)
 
--- x^k · x^(128 - k) is 87 (hexadecimal)
-x-x¹²⁷ : mul 2 (2 ^ 127) ≡ 0x87
+-- x · x^127
+row-b : mul 2 0x80000000000000000000000000000000 ≡ 0x87
 unfolding mul horner double times
-x-x¹²⁷ = refl
+row-b = refl
 
+-- x^k · x^(128 - k)
 pub x¹²⁸ : (k : ℕ) → 0 < k → k < 128 → mul (2 ^ k) (2 ^ (128 - k)) ≡ 0x87
 x¹²⁸ k pos hk =
     let before : k ≡ k - 1 + 1 = omega arith in
@@ -223,7 +224,7 @@ x¹²⁸ k pos hk =
     ∙ ap (λ (x : ℕ). mul x (2 ^ (128 - k))) (pow-add 2 (k - 1) 1 ∙ sym (mul-pow 1 k (pow-lt {i = k - 1} {j = k} (omega arith)) (omega arith) (lit< tt)))
     ∙ mul-assoc (lit< tt) (pow-lt {i = k - 1} {j = 128} (omega arith)) (pow-lt {i = 128 - k} {j = 128} (omega arith))
     ∙ ap (mul 2) (mul-pow (k - 1) (129 - k) y-lt (omega arith) (omega arith) ∙ sym (pow-add 2 (128 - k) (k - 1)) ∙ ap (λ (e : ℕ). 2 ^ e) all)
-    ∙ x-x¹²⁷
+    ∙ row-b
 
 -- ---- inverses
 
@@ -255,10 +256,6 @@ pub 1⊕x⁻¹-inverse : {y : ℕ} → y < 2 ^ 128 → mul 1⊕x⁻¹ (mul 3 y) 
 row-a : mul 2 0x01 ≡ 0x02
 unfolding mul horner double times
 row-a = refl
-
-row-b : mul 2 0x80000000000000000000000000000000 ≡ 0x87
-unfolding mul horner double times
-row-b = refl
 
 pub field-laws : FieldLaws
 field-laws = record {
