@@ -121,10 +121,10 @@ static inline block reduce(uint64_t above, uint64_t hi, uint64_t lo) {
 }
 
 // Four bits of each word of a at a time, the highest first, over the multiples of b. The sum is four words long and is reduced at the end.
-// Of the other forms tried none was faster by more than 1 % on the machine measured (gcc 12, -O3), alone or in BRW. These were: bit by bit;
-// one chain through both words of a; a chain for each word, reduced at every step by a table; the odd groups of four bits apart from the
-// even ones; each multiple shifted to its place; the multiples as an array of blocks; the loop not unrolled. The pragma is a hint alone: a
-// compiler that does not know it passes over it.
+// Of the other forms tried none was faster by more than 1 % on the machine measured (AMD Zen 3, gcc 12, -O3), alone or in BRW. These were:
+// bit by bit; one chain through both words of a; a chain for each word, reduced at every step by a table; the odd groups of four bits apart
+// from the even ones; each multiple shifted to its place; the multiples as an array of blocks; the loop not unrolled. The pragma is a hint
+// alone: a compiler that does not know it passes over it.
 static block mul(block a, block b) {
     uint64_t hi[16], lo[16], w3 = 0, w2 = 0, w1 = 0, w0 = 0;
     multiples(b, hi, lo);

@@ -50,8 +50,8 @@
  *     volume under that key. Key, number, address and plaintext alone decide all bytes: two volumes under one key and one number have equal
  *     bytes for equal plaintexts at equal addresses, and a sector of one is accepted in the other, at the same address. Also in one volume
  *     a sector's old bytes, put back into all three places, are accepted. The number is not secret, and no key: see SECURITY.md.
- *   - Timing is not constant: AES and the hash look up tables by secret bits, comparisons end at the first difference, and a damaged sector
- *     takes longer than a whole one.
+ *   - Timing is not constant: AES and the field products look up tables by secret bits, comparisons end at the first difference, and a
+ *     damaged sector takes longer than a whole one.
  *   - A call does not wipe its scratch memory on the stack: what it made from key and plaintext stays there.
  *
  * POWER CUTS. The calls on a volume work on images in memory; the caller writes out the part that a call changed, and flushes it. What is
@@ -67,6 +67,8 @@
  *     remote sector whose write had begun may then hold anything.
  *   - The images are private memory. A call may store a tag byte by byte: in a shared mapping of the medium (mmap with MAP_SHARED) a kill
  *     or a power cut between two bytes leaves a mixture, and a second stage cut so loses the sector.
+ *
+ * FROM 0.3.0. No call and no stored byte changes. Compile again, since mirror_version() is compared with MIRROR_VERSION.
  *
  * FROM 0.2.0. Every call with a key takes the volume's number behind it; give 0 for a volume of before, and its bytes stay as they are.
  * Compile everything again, and compare mirror_version() with MIRROR_VERSION: what declares the functions for itself (another language, a
