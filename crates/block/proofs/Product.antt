@@ -3,19 +3,19 @@
 use mathlib.Core.Path.{_≡_, refl, sym, ap, ap₂, _∙_, subst}
 use mathlib.Core.List.{List}
 use Prim.Native.Nat.{ℕ, _+_, _-_, _*_, _/_, _%_, _^_, _≤_, _<_}
-use native.Mathlib.Nat.{mod-lt, add-zero, mul-one, mul-assoc, mod-eq-of-lt, div-eq-of-lt, lt-of-lt-of-le}
+use native.Mathlib.Nat.{mod-lt, add-zero, mul-one, mul-comm, mul-assoc, mod-eq-of-lt, div-eq-of-lt, lt-of-lt-of-le}
 use native.Mathlib.Omega.{arith}
 use lib.Dec.{lit<, lit≤}
 use lib.Arith.{digits-lt}
 use lib.Pow.{pow-pos, pow-add, pow-lt, pow-mono, shl-lt, shr-lt, shl-shr, split, high}
 use lib.Pow as P
-use lib.Bits.{bitXor, bitOr, xor-block, xor-comm, xor-lt, xor-zero-r, xor-shifted}
+use lib.Bits.{bitXor, bitOr, xor-block, xor-comm, xor-lt, xor-shifted}
 use Rattle.block.specs.declared.Block.{Block}
 use Rattle.block.specs.Field.{times, double, horner, mul}
 use Rattle.block.specs.Tables.{Multiples}
 use Rattle.block.specs.Value.{value}
 use Rattle.block.proofs.Bits.{xor-assoc}
-use Rattle.block.proofs.Field.{mul-add, add-mul, mul-pow, mul-zero-l, mul-one-l, mul-two-l, below, x¹²⁸}
+use Rattle.block.proofs.Field.{mul-add, add-mul, mul-pow, mul-zero-l, mul-two-l, below, x¹²⁸}
 use Rattle.block.proofs.Field as F
 use Rattle.block.proofs.Linear.{low, after, mul-linear, onBits, agree}
 use Rattle.block.proofs.Words.{shl-shl, left-mod, left-words, high-bits}
@@ -28,16 +28,12 @@ more-bits j k q n {b} hq hn fits hk hb =
     ∙ sym (add-mul (q * 2 ^ k) n b)
     ∙ ap (λ (x : ℕ). mul x b) (xor-shifted q k n hn)
 
--- ---- a multiple from its half
+-- ---- a multiple from its half: one bit more
 
-pub even-multiple : (i : ℕ) {b : ℕ} → i < 2 ^ 127 → b < 2 ^ 128 → double (mul i b) ≡ mul (i * 2) b
-even-multiple i {b} h hb =
-    sym (mul-two-l (mul i b)) ∙ sym (xor-zero-r (mul 2 (mul i b))) ∙ ap (bitXor (mul 2 (mul i b))) (sym (mul-zero-l b))
-    ∙ more-bits 127 1 i 0 h (lit< tt) (lit≤ tt) (lit< tt) hb ∙ ap (λ (x : ℕ). mul x b) (add-zero (i * 2))
-
-pub odd-multiple : (i : ℕ) {b : ℕ} → i < 2 ^ 127 → b < 2 ^ 128 → bitXor (double (mul i b)) b ≡ mul (i * 2 + 1) b
-odd-multiple i {b} h hb =
-    ap₂ bitXor (sym (mul-two-l (mul i b))) (sym (mul-one-l b)) ∙ more-bits 127 1 i 1 h (lit< tt) (lit≤ tt) (lit< tt) hb
+pub multiple-from-half : (i n : ℕ) {b : ℕ} → i < 2 ^ 127 → n < 2 → b < 2 ^ 128 → bitXor (double (mul i b)) (mul n b) ≡ mul (2 * i + n) b
+multiple-from-half i n {b} h hn hb =
+    ap (λ (x : ℕ). bitXor x (mul n b)) (sym (mul-two-l (mul i b))) ∙ more-bits 127 1 i n h hn (lit≤ tt) (lit< tt) hb
+    ∙ ap (λ (x : ℕ). mul (x + n) b) (mul-comm i 2)
 
 -- ---- the product by x^k: a shift, and what is pushed out comes back at the low end
 

@@ -2,19 +2,19 @@
 use mathlib.Core.Path.{_≡_, refl, sym, ap, ap₂, _∙_, subst}
 use mathlib.Core.List.{List, [], _∷_}
 use Prim.Native.Nat.{ℕ, zero, suc, _+_, _*_, _^_, _≤_, _<_}
-use native.Mathlib.Nat.{zero-add, add-zero, mul-comm, lt-of-lt-of-le, le-of-suc-le-suc}
+use native.Mathlib.Nat.{zero-add, add-zero, lt-of-lt-of-le, le-of-suc-le-suc}
 use native.Mathlib.Decide.{ℕ-discrete}
 use native.Mathlib.Omega.{arith}
 use lib.Dec.{lit<, lit≤}
 use lib.ListN.{replicate, length, getD, set, length-set}
-use lib.Bits.{bitXor}
+use lib.Bits.{bitXor, xor-zero-r}
 use lib.Seq.{getD-set-same, getD-set-other}
 use Rattle.block.specs.declared.Block.{Block}
 use Rattle.block.specs.Field.{double, mul}
 use Rattle.block.specs.Tables.{multipleAt, Multiples, Reductions}
 use Rattle.block.specs.Value.{value}
 use Rattle.block.proofs.Field.{mul-zero-l, mul-one-l}
-use Rattle.block.proofs.Product.{even-multiple, odd-multiple}
+use Rattle.block.proofs.Product.{multiple-from-half}
 
 -- ---- the multiples
 
@@ -46,9 +46,11 @@ unfolding Multiples
 two-more t i b even odd p q hb len all e o =
     let i-lt : i < 2 ^ 127 = lt-of-lt-of-le q (lit≤ tt) in
     let half : value even ≡ double (mul i b) = e ∙ ap double (all i (omega arith)) in
-    let even-is : value even ≡ mul (2 * i) b = half ∙ even-multiple i i-lt hb ∙ ap (λ (n : ℕ). mul n b) (mul-comm i 2) in
+    let even-is : value even ≡ mul (2 * i) b =
+    half ∙ sym (xor-zero-r (double (mul i b))) ∙ ap (bitXor (double (mul i b))) (sym (mul-zero-l b))
+    ∙ multiple-from-half i 0 i-lt (lit< tt) hb ∙ ap (λ (n : ℕ). mul n b) (add-zero (2 * i)) in
     let odd-is : value odd ≡ mul (2 * i + 1) b =
-    o ∙ ap (λ (x : ℕ). bitXor x b) half ∙ odd-multiple i i-lt hb ∙ ap (λ (n : ℕ). mul (n + 1) b) (mul-comm i 2) in
+    o ∙ ap₂ bitXor half (sym (mul-one-l b)) ∙ multiple-from-half i 1 i-lt (lit< tt) hb in
     let done : 2 * i + 1 + 1 ≡ 2 * (i + 1) = omega arith in
     subst
     (λ (n : ℕ). Multiples n b
