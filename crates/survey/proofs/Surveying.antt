@@ -2,12 +2,10 @@
 use mathlib.Core.Path.{_≡_, refl, sym, ap, subst, _∙_}
 use mathlib.Core.Bool.{Bool, true, false, not}
 use mathlib.Core.Logic.{⊎-elim}
-use mathlib.Core.List.{List, [], _∷_}
+use mathlib.Core.List.{List}
 use Prim.Native.Nat.{ℕ, suc, _+_, _*_, _/_, _<_, _≤_}
 use native.Mathlib.Numerals.{add-one}
 use native.Mathlib.Omega.{arith}
-use denote.Enum.Declared.{tagOf}
-use types.Run.{OneOf, miss}
 use lib.Dec.{eqb}
 use lib.ListN.{length}
 use borrow.Author.Tests.{eq-eqb, ne-eqb}
@@ -25,7 +23,6 @@ use Rattle.answers.specs.declared.Judged.the-variants as J
 use Rattle.answers.specs.declared.Place as D
 use Rattle.answers.specs.declared.Refusal.{Refusal}
 use Rattle.answers.specs.declared.Refusal.the-variants.{Lost}
-use Rattle.answers.proofs.Refusal.{the-type}
 use Rattle.answers.specs.Answers.{refusalNumber, placeNamed, judgedNumber}
 use Rattle.verdict.specs.Judging.{verdictNumber, judgedBy}
 use Rattle.verdict.specs.Verdict.{Verdict, whole, doubtful, lost, clashing, fits, fitsTwo, candidate, grade, judge}
@@ -79,13 +76,6 @@ tells-refused {j} {f} z clashing e =
 
 pub tells-lost : {j : Judged} {f : Refusal} → j ≡ J.Refused f → f ≡ Lost → (w : Verdict) → Tells j w → Kind w false false false true
 tells-lost z d w e = tells-refused (z ∙ ap J.Refused d) w e
-
--- the enum's tags but that of lost
-abbrev pub others : List ℕ
-others = 0 ∷ 1 ∷ 2 ∷ 3 ∷ 4 ∷ 6 ∷ 7 ∷ 8 ∷ 9 ∷ 10 ∷ 11 ∷ []
-
-pub not-lost : {f : Refusal} → OneOf others (tagOf the-type f) → f ≡ Lost → ⊥
-not-lost k d = miss others 5 tt (subst (λ (f : Refusal). OneOf others (tagOf the-type f)) d k)
 
 pub tells-clashing : {j : Judged} {f : Refusal} → j ≡ J.Refused f → (f ≡ Lost → ⊥) → (w : Verdict) → Tells j w → Kind w false false true false
 tells-clashing {j} {f} z d w e =

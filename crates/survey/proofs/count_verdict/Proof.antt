@@ -1,6 +1,8 @@
 use mathlib.Core.Path.{refl}
 use native.Mathlib.Numerals.{add-one}
-use Rattle.survey.proofs.Surveying.{tells-whole, tells-doubtful, tells-lost, not-lost, tells-clashing, counts-one}
+use Rattle.answers.specs.declared.Refusal.the-variants.{Lost}
+use Rattle.answers.proofs.Numbers.{tags, without, other-tag}
+use Rattle.survey.proofs.Surveying.{tells-whole, tells-doubtful, tells-lost, tells-clashing, counts-one}
 use borrow.Author.Needs.{needs}
 use Rattle.survey.proofs.count_verdict.Statement.{statement}
 use Rattle.survey.proofs.count_verdict.Tie as tie
@@ -39,7 +41,7 @@ returns-3 : tie.Need-returns-3
 returns-3 c = λ w e. counts-one w (tells-lost (c .before .before .before .before .judged .given .1) (c .before .enum-told3 .given .1) w e) _ refl refl refl (add-one _)
 
 returns-4 : tie.Need-returns-4
-returns-4 c = λ w e. counts-one w (tells-clashing (c .before .before .before .judged .given .1) (not-lost (c .before .match2 .keys2)) w e) _ refl refl (add-one _) refl
+returns-4 c = λ w e. counts-one w (tells-clashing (c .before .before .before .judged .given .1) (other-tag Lost (without Lost tags) (c .before .match2 .keys2) tt) w e) _ refl refl (add-one _) refl
 
 pub count-verdict-spec : {M : Type 1} → statement M
 count-verdict-spec =

@@ -1,5 +1,7 @@
 use mathlib.Core.Path.{refl}
-use Rattle.survey.proofs.Surveying.{tells-whole, tells-doubtful, tells-lost, not-lost, tells-clashing, marks-one}
+use Rattle.answers.specs.declared.Refusal.the-variants.{Lost}
+use Rattle.answers.proofs.Numbers.{tags, without, other-tag}
+use Rattle.survey.proofs.Surveying.{tells-whole, tells-doubtful, tells-lost, tells-clashing, marks-one}
 use borrow.Author.Needs.{needs}
 use Rattle.survey.proofs.mark_kind.Statement.{statement}
 use Rattle.survey.proofs.mark_kind.Tie as tie
@@ -44,7 +46,7 @@ same-length-3 : tie.Need-same-length-3
 same-length-3 c = search needs
 
 returns-4 : tie.Need-returns-4
-returns-4 c = λ w e. marks-one w (tells-clashing (c .before .before .before .before .before .before .judged .given .1) (not-lost (c .before .before .before .before .match2 .keys2)) w e) _ _ refl (c .before .before .set-bit3 .ensures) refl
+returns-4 c = λ w e. marks-one w (tells-clashing (c .before .before .before .before .before .before .judged .given .1) (other-tag Lost (without Lost tags) (c .before .before .before .before .match2 .keys2) tt) w e) _ _ refl (c .before .before .set-bit3 .ensures) refl
 
 pub mark-kind-spec : {M : Type 1} → statement M
 mark-kind-spec =
