@@ -9,7 +9,7 @@ use types.Run.{OneOf, miss}
 use lib.Dec.{T, eqb, lit<}
 use Rattle.mode.specs.Scheme.{Place, local, tag, remote}
 use Rattle.answers.specs.declared.Refusal.{Refusal}
-use Rattle.answers.specs.declared.Refusal.the-variants.{KeyLength, SectorSize, OtherLength, UnknownSide, NoneFits, Lost, Clashing, VolumeShape, SectorNumber, StageOrder, ListLength, NoFrame}
+use Rattle.answers.specs.declared.Refusal.the-variants.{KeyLength, SectorSize, OtherLength, UnknownSide, NoneFits, Lost, Clashing, VolumeShape, SectorNumber, StageOrder, ListLength, NoFrame, MapLength}
 use Rattle.answers.specs.Answers.{doubtNumber, refusalNumber}
 use Rattle.answers.proofs.Refusal.{the-type}
 
@@ -26,6 +26,7 @@ refusal-range SectorNumber = (lit< tt, lit< tt)
 refusal-range StageOrder = (lit< tt, lit< tt)
 refusal-range ListLength = (lit< tt, lit< tt)
 refusal-range NoFrame = (lit< tt, lit< tt)
+refusal-range MapLength = (lit< tt, lit< tt)
 
 -- the refusal with a number
 abbrev numbered : ℕ → Refusal
@@ -41,7 +42,8 @@ numbered n =
     (cond (eqb n 9) SectorNumber
     (cond (eqb n 10) StageOrder
     (cond (eqb n 11) ListLength
-    NoFrame))))))))))
+    (cond (eqb n 12) NoFrame
+    MapLength)))))))))))
 
 numbered-back : (f : Refusal) → numbered (refusalNumber f) ≡ f
 numbered-back KeyLength = refl
@@ -56,6 +58,7 @@ numbered-back SectorNumber = refl
 numbered-back StageOrder = refl
 numbered-back ListLength = refl
 numbered-back NoFrame = refl
+numbered-back MapLength = refl
 
 -- so a number names one refusal
 pub refusal-one : (f g : Refusal) → refusalNumber f ≡ refusalNumber g → f ≡ g
@@ -70,7 +73,7 @@ doubt-least remote = lit< tt
 
 -- the enum's tags, and those but one
 abbrev pub tags : List ℕ
-tags = 0 ∷ 1 ∷ 2 ∷ 3 ∷ 4 ∷ 5 ∷ 6 ∷ 7 ∷ 8 ∷ 9 ∷ 10 ∷ 11 ∷ []
+tags = 0 ∷ 1 ∷ 2 ∷ 3 ∷ 4 ∷ 5 ∷ 6 ∷ 7 ∷ 8 ∷ 9 ∷ 10 ∷ 11 ∷ 12 ∷ []
 
 abbrev pub without : Refusal → List ℕ → List ℕ
 without g [] = []

@@ -1,8 +1,9 @@
--- Refusals on arguments (document 01): each rule once, and the rules of each call in its order. Assumes nothing: these are definitions.
+-- Refusals on arguments (document 01, and 13 of change request S-4): each rule once, and the rules of each call in its order. Assumes
+-- nothing: these are definitions.
 use mathlib.Core.Bool.{Bool, true, not, _&&_, _||_, cond}
 use mathlib.Core.List.{List, [], _∷_, _++_}
 use mathlib.Core.Option.{Option, none, some}
-use Prim.Native.Nat.{ℕ, _*_}
+use Prim.Native.Nat.{ℕ, _+_, _*_, _/_}
 use lib.Dec.{eqb, leb, ltb}
 use lib.ListN.{length}
 use Rattle.mode.specs.Sealing.{Key, Triple}
@@ -70,6 +71,14 @@ unfoldable pub isShape : ℕ → ℕ → Triple → Bool
 unfolding shape
 isShape s n v = shape s n (length (v .local)) (length (v .tag)) (length (v .remote))
 
+-- n from 1 to 65,536
+unfoldable pub isCount : ℕ → Bool
+isCount n = leb 1 n && leb n 65536
+
+-- the 64-bit words that n bits need
+unfoldable pub mapWords : ℕ → ℕ
+mapWords n = (n + 63) / 64
+
 -- ---- each rule
 
 -- 1: the key
@@ -100,6 +109,14 @@ numberRules n i = rule 9 (leb n i) ∷ []
 abbrev pub listRules : ℕ → ℕ → List Rule
 listRules n room = rule 11 (ltb room n) ∷ []
 
+-- 8: the count alone, of a call that takes no images
+abbrev pub countRules : ℕ → List Rule
+countRules n = rule 8 (not (isCount n)) ∷ []
+
+-- 13: a map of w words for n sectors
+abbrev pub mapRules : ℕ → ℕ → List Rule
+mapRules n w = rule 13 (not (eqb w (mapWords n))) ∷ []
+
 -- ---- the calls on a sector
 
 -- combine: the size s, and two lengths that must equal it
@@ -127,3 +144,14 @@ sectorRules k s n right i = volumeRules k s right ++ numberRules n i
 -- of a survey of n sectors with a list of `room` numbers
 abbrev pub surveyRules : Key → ℕ → ℕ → Bool → ℕ → List Rule
 surveyRules k s n right room = volumeRules k s right ++ listRules n room
+
+-- the same with a map of w words: 13 directly after 8
+abbrev pub sectorAndMapRules : Key → ℕ → ℕ → Bool → ℕ → ℕ → List Rule
+sectorAndMapRules k s n right w i = volumeRules k s right ++ (mapRules n w ++ numberRules n i)
+
+abbrev pub surveyAndMapRules : Key → ℕ → ℕ → Bool → ℕ → ℕ → List Rule
+surveyAndMapRules k s n right w room = volumeRules k s right ++ (mapRules n w ++ listRules n room)
+
+-- of a call on a map of w words alone, for n sectors
+abbrev pub countAndMapRules : ℕ → ℕ → List Rule
+countAndMapRules n w = countRules n ++ mapRules n w

@@ -5,7 +5,7 @@ ghost use mathlib.Core.List.{_++_};
 ghost use Rattle.mode.specs.Scheme.{isSize};
 ghost use Rattle.mode.specs.Sealing.{keyFrom};
 ghost use Rattle.answers.specs.Answers.{doubtNumber, refusalNumber, placeNamed, doneNumber, judgedNumber, doneOption};
-ghost use Rattle.answers.specs.Rules.{firstOf, firstSome, keyRules, sizeRules, lengthRules, sideRules, shape, shapeRules, numberRules, listRules, pairRules, partsRules, openRules, volumeRules, sectorRules, surveyRules};
+ghost use Rattle.answers.specs.Rules.{firstOf, firstSome, keyRules, sizeRules, lengthRules, sideRules, shape, shapeRules, numberRules, listRules, mapRules, pairRules, partsRules, openRules, volumeRules, sectorRules, surveyRules, sectorAndMapRules, surveyAndMapRules, countRules, countAndMapRules};
 
 // Document 01's three places.
 pub enum Place {
@@ -14,7 +14,7 @@ pub enum Place {
     Remote,
 }
 
-// Document 01's refusals, from 1 on. Those from 8 on are a volume's, and 12 is the program `frames`'s.
+// Document 01's refusals, from 1 on, and then those of the change requests. 12 is the program `frames`'s, the others from 8 on a volume's.
 pub enum Refusal {
     KeyLength,
     SectorSize,
@@ -28,6 +28,7 @@ pub enum Refusal {
     StageOrder,
     ListLength,
     NoFrame,
+    MapLength,
 }
 
 // What judging answers.
@@ -71,6 +72,7 @@ pub fn refusal_number(f: Refusal) -> u8
         Refusal::StageOrder => 10,
         Refusal::ListLength => 11,
         Refusal::NoFrame => 12,
+        Refusal::MapLength => 13,
     }
 }
 
@@ -219,6 +221,30 @@ fn check_list(n: usize, room: usize) -> Done
     }
 }
 
+// Refusal 8, of a count alone.
+fn check_count(n: usize) -> Done
+    ensures { λ d. ⌜ firstOf (countRules n) ≡ doneOption d ⌝ }
+{
+    if n == 0 {
+        return Done::Refused(Refusal::VolumeShape);
+    }
+    if n < 65537 {
+        return Done::Done;
+    }
+    Done::Refused(Refusal::VolumeShape)
+}
+
+// Refusal 13: a map of `words` words for n sectors. The words needed are worked out so that no sum wraps.
+fn check_words(n: usize, words: usize) -> Done
+    ensures { λ d. ⌜ firstOf (mapRules n words) ≡ doneOption d ⌝ }
+{
+    if words == n / 64 + (n % 64 + 63) / 64 {
+        Done::Done
+    } else {
+        Done::Refused(Refusal::MapLength)
+    }
+}
+
 // ---- all refusals that come before the sector is looked at, in order
 
 // Refusals 2 and 3: the size s, and two lengths that must equal it.
@@ -311,4 +337,53 @@ pub fn check_survey(
     let images = check_volume(key, s, n, l, g, r);
     let list = check_list(n, room);
     first_refusal(images, list)
+}
+
+// Refusals 1, 2, 8, 13 and 9 of a call on sector i with a map of `words` words.
+pub fn check_sector_and_map(
+    key: &[u8],
+    s: usize,
+    n: usize,
+    i: usize,
+    l: usize,
+    g: usize,
+    r: usize,
+    words: usize,
+) -> Done
+    ensures { λ d. ⌜ firstOf (sectorAndMapRules (keyFrom (now (key .entry))) s n (shape s n l g r) words i) ≡ doneOption d ⌝ }
+{
+    let images = check_volume(key, s, n, l, g, r);
+    let map = check_words(n, words);
+    let number = check_number(n, i);
+    let sector = first_refusal(map, number);
+    first_refusal(images, sector)
+}
+
+// Refusals 1, 2, 8, 13 and 11 of a survey with a map of `words` words and a list of `room` numbers.
+pub fn check_survey_and_map(
+    key: &[u8],
+    s: usize,
+    n: usize,
+    l: usize,
+    g: usize,
+    r: usize,
+    words: usize,
+    room: usize,
+) -> Done
+    ensures { λ d. ⌜ firstOf (surveyAndMapRules (keyFrom (now (key .entry))) s n (shape s n l g r) words room) ≡ doneOption d ⌝ }
+{
+    let images = check_volume(key, s, n, l, g, r);
+    let map = check_words(n, words);
+    let list = check_list(n, room);
+    let lent = first_refusal(map, list);
+    first_refusal(images, lent)
+}
+
+// Refusals 8 and 13, of a call on a map alone.
+pub fn check_count_and_map(n: usize, words: usize) -> Done
+    ensures { λ d. ⌜ firstOf (countAndMapRules n words) ≡ doneOption d ⌝ }
+{
+    let count = check_count(n);
+    let map = check_words(n, words);
+    first_refusal(count, map)
 }
