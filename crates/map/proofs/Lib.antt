@@ -1,0 +1,5 @@
+pub mod Words
+pub mod Starting
+pub mod Counting
+pub mod Checks
+pub mod MapFacts
