@@ -1,0 +1,5 @@
+pub mod Marks
+pub mod Calls
+pub mod Meaning
+pub mod Lists
+pub mod History
