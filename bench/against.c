@@ -39,6 +39,16 @@ typedef struct {
 #define KEYED v.key, v.key_len, v.volume
 #define PLAIN_KEYED ((slice){v.key, v.key_len}), v.volume
 
+// A release before 0.5.0 takes no map of suspect sectors behind the images, nor does the C.
+#define BYTES v.local, v.local_len, v.tags, v.tags_len, v.remote, v.remote_len
+#define IMAGES BYTES, v.map, v.map_len
+#if BEFORE_MIRROR_VERSION >= 5000
+#define BEFORE_IMAGES IMAGES
+#else
+#define BEFORE_IMAGES BYTES
+#endif
+#define PLAIN_IMAGES (slice){v.local, v.local_len}, (slice){v.tags, v.tags_len}, (slice){v.remote, v.remote_len}
+
 // A chain of products, of which each takes the result of the last (crates/bench).
 uint64_t before_bench_mul(uint64_t ahi, uint64_t alo, uint64_t bhi, uint64_t blo, uint64_t n);
 uint64_t bench_mul(uint64_t ahi, uint64_t alo, uint64_t bhi, uint64_t blo, uint64_t n);
@@ -75,16 +85,25 @@ static void judge_plain(result *r, unsigned long times) {
     while (times--) r->answer = plain_judge(PLAIN_KEYED, 0, local, tag, remote, (slice_mut){r->out, v.s});
 }
 
-#define SURVEYED v.s, v.n, v.local, v.local_len, v.tags, v.tags_len, v.remote, v.remote_len, r->list, v.n, r->counts
+// The volume's first sector.
+static void read_before(result *r, unsigned long times) {
+    while (times--) r->answer = before_mirror_read(BEFORE_KEYED, v.s, v.n, 0, BEFORE_IMAGES, r->out, v.s);
+}
+static void read_now(result *r, unsigned long times) {
+    while (times--) r->answer = mirror_read(KEYED, v.s, v.n, 0, IMAGES, r->out, v.s);
+}
+static void read_plain(result *r, unsigned long times) {
+    while (times--) r->answer = plain_read(PLAIN_KEYED, v.s, v.n, 0, PLAIN_IMAGES, (slice_mut){r->out, v.s});
+}
+
 static void survey_before(result *r, unsigned long times) {
-    while (times--) r->answer = before_mirror_survey(BEFORE_KEYED, SURVEYED);
+    while (times--) r->answer = before_mirror_survey(BEFORE_KEYED, v.s, v.n, BEFORE_IMAGES, r->list, v.n, r->counts);
 }
 static void survey_now(result *r, unsigned long times) {
-    while (times--) r->answer = mirror_survey(KEYED, SURVEYED);
+    while (times--) r->answer = mirror_survey(KEYED, v.s, v.n, IMAGES, r->list, v.n, r->counts);
 }
 static void survey_plain(result *r, unsigned long times) {
-    slice local = {v.local, v.local_len}, tags = {v.tags, v.tags_len}, remote = {v.remote, v.remote_len};
-    while (times--) r->answer = plain_survey(PLAIN_KEYED, v.s, v.n, local, tags, remote, r->list, v.n, r->counts);
+    while (times--) r->answer = plain_survey(PLAIN_KEYED, v.s, v.n, PLAIN_IMAGES, r->list, v.n, r->counts);
 }
 
 typedef void side(result *r, unsigned long times);
@@ -97,6 +116,7 @@ static const call calls[] = {
     {"product", {product_before, product_now, product_plain}, 0},
     {"seal", {seal_before, seal_now, seal_plain}, 0},
     {"judge", {judge_before, judge_now, judge_plain}, 0},
+    {"read", {read_before, read_now, read_plain}, 0},
     {"survey", {survey_before, survey_now, survey_plain}, 1},
 };
 enum { CALLS = sizeof calls / sizeof calls[0] };
@@ -125,7 +145,7 @@ static void fill(void *to, size_t n) {
 }
 
 // ---- A row is CALL:DAMAGE:SIZE:COUNT, such as survey:third:512:1024. DAMAGE is whole or, for a survey, third. A product looks at no
-// volume, and a seal or a judgement is of one sector.
+// volume, and a seal, a judgement or a read is of one sector.
 
 static void seal(size_t i, const uint8_t *p) {
     size_t at = i * v.s;
@@ -148,9 +168,12 @@ static void make_sector(size_t i, int damaged) {
 }
 
 static void make_volume(size_t s, size_t n, int damaged) {
-    free(v.local), free(v.tags), free(v.remote);
+    size_t words = MIRROR_MAP_WORDS(n);
+    free(v.local), free(v.tags), free(v.remote), free(v.map);
     v = (struct mirror_volume){.key = key, .key_len = sizeof key, .s = s, .n = n, .local = room(n * s), .local_len = n * s,
-                               .tags = room(n * 16), .tags_len = n * 16, .remote = room(n * s), .remote_len = n * s};
+                               .tags = room(n * 16), .tags_len = n * 16, .remote = room(n * s), .remote_len = n * s,
+                               .map = room(words * sizeof(uint64_t)), .map_len = words};
+    must(!mirror_volume_start_map(&v), 1, "cannot start a map");
     memset(due, 0, sizeof due);
     for (size_t i = 0; i < n; i++) make_sector(i, damaged);
     due[MIRROR_COUNT_HEALTH] = due[MIRROR_COUNT_WHOLE] * 1000 / n;

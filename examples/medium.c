@@ -1,5 +1,6 @@
 /* A volume on a medium: three files in a folder. What a call wrote is written out and flushed before the next call, as mirror.h asks under
- * POWER CUTS. A write is left after its second stage, as by a power cut; then the images are loaded again, and the sector is mended.
+ * POWER CUTS. A write is left after its second stage, as by a power cut; then the images are loaded again, the map of suspect sectors is
+ * started anew, and the sectors in it are mended.
  * Build and run it from the root of the source tree, PREFIX being a folder of your choice, as an absolute path:
  *
  *   scripts/install PREFIX
@@ -25,6 +26,7 @@ enum { LOCAL, TAG, REMOTE, PLACES };
  * stored in the images: whoever opens the volume again has to give the same. */
 static const uint8_t key[MIRROR_KEY_BYTES] = "an example key: h, and then K..";
 static uint8_t local[COUNT * SIZE], tags[COUNT * MIRROR_TAG_BYTES], remote[COUNT * SIZE];
+static uint64_t map[MIRROR_MAP_WORDS(COUNT)];
 static const struct mirror_volume volume = {.key = key,
                                             .key_len = sizeof key,
                                             .volume = VOLUME,
@@ -35,7 +37,9 @@ static const struct mirror_volume volume = {.key = key,
                                             .tags = tags,
                                             .tags_len = sizeof tags,
                                             .remote = remote,
-                                            .remote_len = sizeof remote};
+                                            .remote_len = sizeof remote,
+                                            .map = map,
+                                            .map_len = MIRROR_MAP_WORDS(COUNT)};
 
 /* The file of each place: its image, and the bytes of one sector's part. */
 static struct {
@@ -73,15 +77,18 @@ static void finish(int place, size_t number)
     need(done == (ssize_t)part && fdatasync(places[place].file) == 0, "writing out has failed");
 }
 
+/* Opens the volume as it is on the medium. What a map said before says nothing of that: all sectors are suspect, until they are read or
+ * mended. */
 static void load(void)
 {
     for (int i = 0; i < PLACES; i++) {
         const ssize_t done = pread(places[i].file, places[i].image, places[i].length, 0);
         need(done == (ssize_t)places[i].length, "a file is shorter than its image");
     }
+    expect("start the map", mirror_volume_start_map(&volume), MIRROR_DONE);
 }
 
-/* New files, with each sector blanked. The folder is flushed too, for the names are in it. */
+/* New files, with each sector blanked, which clears its bit in the map. The folder is flushed too, for the names are in it. */
 static void make(const char *path)
 {
     const int folder = open(path, O_RDONLY | O_DIRECTORY);
@@ -90,6 +97,7 @@ static void make(const char *path)
         places[i].file = openat(folder, places[i].name, O_RDWR | O_CREAT | O_EXCL, 0600);
         need(places[i].file >= 0, strerror(errno)); /* EEXIST: the folder has a volume already */
     }
+    expect("start the map", mirror_volume_start_map(&volume), MIRROR_DONE);
     for (size_t number = 0; number < COUNT; number++) {
         expect("blank", mirror_volume_blank(&volume, number), MIRROR_DONE);
         for (int i = 0; i < PLACES; i++)
@@ -134,6 +142,24 @@ static uint32_t mend_sector(size_t number)
     return found;
 }
 
+static void expect_suspects(uint64_t due)
+{
+    uint64_t suspects;
+    expect("count the suspects", mirror_volume_count_suspects(&volume, &suspects), MIRROR_DONE);
+    need(suspects == due, "another number of sectors is suspect");
+    printf("%lu of %d sectors are suspect\n", (unsigned long)suspects, COUNT);
+}
+
+/* Mends the suspect sectors, and gives how many were not whole. One that is lost or clashing stays suspect. */
+static int mend_suspects(void)
+{
+    int found = 0;
+    for (size_t number = 0; number < COUNT; number++)
+        if (mirror_is_suspect(map, number))
+            found += mend_sector(number) != MIRROR_WHOLE;
+    return found;
+}
+
 int main(int count, char **arguments)
 {
     static const uint8_t old_plain[SIZE] = "the old plaintext", new_plain[SIZE] = "the new plaintext";
@@ -142,12 +168,16 @@ int main(int count, char **arguments)
     make(arguments[1]);
     write_stages(NUMBER, old_plain, 3);
     read_sector(NUMBER, MIRROR_WHOLE, old_plain);
+    expect_suspects(0);
 
     write_stages(NUMBER, new_plain, 2);
+    expect_suspects(1);
     puts("a power cut before the third stage; the images are loaded again");
     load();
+    expect_suspects(COUNT);
     read_sector(NUMBER, MIRROR_DOUBTFUL_REMOTE, new_plain);
-    expect("mend", mend_sector(NUMBER), MIRROR_DOUBTFUL_REMOTE);
+    need(mend_suspects() == 1, "another number of sectors was not whole");
+    expect_suspects(0);
     load();
     read_sector(NUMBER, MIRROR_WHOLE, new_plain);
     return 0;

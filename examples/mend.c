@@ -1,5 +1,5 @@
-/* A volume of four sectors: one is written, damaged, read and mended. Build and run it from the root of the source tree, PREFIX being a
- * folder of your choice, as an absolute path:
+/* A volume of four sectors: one is written, damaged, read and mended, and a map of the suspect sectors is kept meanwhile. Build and run it
+ * from the root of the source tree, PREFIX being a folder of your choice, as an absolute path:
  *
  *   scripts/install PREFIX
  *   export PKG_CONFIG_PATH=PREFIX/lib/pkgconfig
@@ -19,6 +19,7 @@ enum { VOLUME = 1, SIZE = 512, COUNT = 4, NUMBER = 2 };
  * stored in the images: whoever opens the volume again has to give the same. */
 static const uint8_t key[MIRROR_KEY_BYTES] = "an example key: h, and then K..";
 static uint8_t local[COUNT * SIZE], tags[COUNT * MIRROR_TAG_BYTES], remote[COUNT * SIZE];
+static uint64_t map[MIRROR_MAP_WORDS(COUNT)];
 
 static const struct mirror_volume volume = {.key = key,
                                             .key_len = sizeof key,
@@ -30,7 +31,9 @@ static const struct mirror_volume volume = {.key = key,
                                             .tags = tags,
                                             .tags_len = sizeof tags,
                                             .remote = remote,
-                                            .remote_len = sizeof remote};
+                                            .remote_len = sizeof remote,
+                                            .map = map,
+                                            .map_len = MIRROR_MAP_WORDS(COUNT)};
 
 static void expect(const char *call, uint32_t answer, uint32_t due)
 {
@@ -59,6 +62,17 @@ static void read_sector(size_t number, uint32_t due, const uint8_t plain[SIZE])
     }
 }
 
+static void expect_suspects(uint64_t due)
+{
+    uint64_t suspects = 0;
+    expect("count the suspects", mirror_volume_count_suspects(&volume, &suspects), MIRROR_DONE);
+    printf("%lu of %d sectors are suspect\n", (unsigned long)suspects, COUNT);
+    if (suspects != due) {
+        fprintf(stderr, "count the suspects: due is %lu\n", (unsigned long)due);
+        exit(1);
+    }
+}
+
 int main(void)
 {
     static const uint8_t plain[SIZE] = "what the sector holds";
@@ -66,15 +80,21 @@ int main(void)
         fprintf(stderr, "the library is of another release than the header, which is of " MIRROR_VERSION_TEXT "\n");
         return 1;
     }
+    expect("start the map", mirror_volume_start_map(&volume), MIRROR_DONE);
+    expect_suspects(COUNT);
     for (size_t i = 0; i < COUNT; i++)
         expect("blank", mirror_volume_blank(&volume, i), MIRROR_DONE);
     write_sector(NUMBER, plain);
     read_sector(NUMBER, MIRROR_WHOLE, plain);
+    expect_suspects(0);
 
     memset(remote + NUMBER * SIZE, 0xff, 100);
-    puts("100 bytes of the remote sector are damaged");
+    puts("100 bytes of the remote sector are damaged; no call has met that yet");
+    expect_suspects(0);
     read_sector(NUMBER, MIRROR_DOUBTFUL_REMOTE, plain);
+    expect_suspects(1);
     expect("mend, which has found", mirror_volume_mend(&volume, NUMBER), MIRROR_DOUBTFUL_REMOTE);
     read_sector(NUMBER, MIRROR_WHOLE, plain);
+    expect_suspects(0);
     return 0;
 }

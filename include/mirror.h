@@ -16,6 +16,7 @@
  *              for another volume under that key; 0 for volumes made by releases before 0.3.0. It is not secret. The library does not
  *              store it: keep it beside the volume, as s and n. A sector is judged under the number that it was sealed under; under
  *              another it is lost, unless its plaintext has one tag under both.
+ *   map        which sectors of a volume are suspect: (n+63)/64 words of 64 bits, lent to every call on a volume beside its images; see MAP
  *
  * BUILD AND LINK. In the library's source tree `scripts/install PREFIX` puts mirror.h into PREFIX/include, libmirror.a into PREFIX/lib and
  * mirror.pc into PREFIX/lib/pkgconfig. A program is then built by
@@ -25,15 +26,45 @@
  * If pkg-config does not find mirror, it does not search this prefix: export PKG_CONFIG_PATH=PREFIX/lib/pkgconfig. Without pkg-config it
  * is `cc -IPREFIX/include program.c PREFIX/lib/libmirror.a`.
  *
- * ANSWERS. Each call returns one number: 0 or MIRROR_DOUBTFUL_... when it is done, or a refusal, MIRROR_REFUSED_..., from 1 to 11. The
- * refusals of a call are checked in the order in which they stand at it below, and the first that holds is the answer. A refused call has
- * changed none of the bytes that it was lent. `out` is written when the answer is certain, and all of it. Always look at the answer: after
- * a refusal `out` is what it was before. mirror_text gives a text for each answer.
+ * ANSWERS. Each call returns one number: 0 or MIRROR_DOUBTFUL_... when it is done, or a refusal, MIRROR_REFUSED_..., from 1 to 11 or 13
+ * (12 is the program frames's own). The refusals of a call are checked in the order in which they stand at it below, and the first that
+ * holds is the answer. A refused call has changed none of the bytes that it was lent, with one exception: a mirror_read or mirror_mend that
+ * refuses 6 or 7 has set its sector's bit in the map, and changed nothing else. `out` is written when the answer is certain, and all of it.
+ * Always look at the answer: after a refusal `out` is what it was before. mirror_text gives a text for each answer.
+ *
+ * MAP. Every call on a volume is lent a map of its suspect sectors, to know what to look at without judging all of them. It has one bit a
+ * sector: sector i is bit i mod 64, lowest first, of word i/64. A set bit means suspect; mirror_is_suspect tests one, and
+ * mirror_count_suspects counts them. A map of n sectors has exactly (n+63)/64 words, MIRROR_MAP_WORDS(n), else the call refuses 13. It is
+ * started by mirror_start_map: all n bits set, those past n clear. From then on a call on one sector changes that sector's bit at most:
+ *
+ *   call                       answer                  the sector's bit
+ *   blank, third stage         0                       cleared
+ *   mend                       0, 0x81, 0x82, 0x83     cleared: the sector is whole now
+ *   first stage, second stage  0                       set
+ *   read                       0                       cleared
+ *   read                       0x81, 0x82, 0x83        set
+ *   read, mend                 6 lost, 7 clashing      set, and no other byte that was lent is changed
+ *   all of these               any other refusal       as it was, after 10 too, even if the sector is lost
+ *   survey                     any                     the whole map as it was: only its length is looked at
+ *
+ *   - A set bit does not say that the sector is damaged. It has not been cleared since the start, or the last call that changed it was a
+ *     first or second stage, or found the sector doubtful, lost or clashing.
+ *   - A clear bit says that the sector is whole, but only if all calls since the start took this map and one key, number and s, and the n
+ *     of the start, and nothing else has written the images or the map. No call checks this: a map started for another n may have as many
+ *     words, and is accepted then.
+ *   - Damage that no call has met yet shows nowhere in the map. A read of the sector meets it. A survey meets it too, but leaves the map
+ *     alone: read the sectors that it lists, and the map has them.
+ *   - A bit changes when the call answers, before the caller has written anything out. So after a power cut, or where writing out has
+ *     failed, the map is worth nothing: start it anew.
+ *   - The library does not store the map. Start one when the volume is opened: all sectors are suspect then, and reading or mending them
+ *     clears the bits of those that are whole. No call can tell whether a map was started: one of zeros is accepted, and then none is
+ *     suspect, whatever the sectors hold.
  *
  * POINTERS. Each buffer goes as a pointer and its length (size_t), in elements. A call has no way to check these, the caller sees to it:
  *   - a pointer is valid for its length, and the length in bytes is at most PTRDIFF_MAX;
- *   - it may be NULL only if its length is 0; `counts` has no length, is valid for MIRROR_COUNTS_LENGTH numbers and is never NULL;
- *   - `list` is aligned for uint32_t and `counts` for uint64_t; bytes need no alignment;
+ *   - it may be NULL only if its length is 0; `counts` and `count` have no length, are valid for MIRROR_COUNTS_LENGTH numbers and for one,
+ *     and are never NULL;
+ *   - `list` is aligned for uint32_t, and `map`, `counts` and `count` for uint64_t; bytes need no alignment;
  *   - a buffer that the call may write (one without const) overlaps no other buffer of the call, not even in part. What is proved of a
  *     call says nothing about overlaps. Buffers that are only read may overlap each other.
  * Any lengths and numbers are safe otherwise: wrong ones are refused. Every address and every volume's number is accepted.
@@ -41,7 +72,9 @@
  * MEMORY AND THREADS. A call keeps no state between calls, allocates nothing and does no input or output. It needs memcpy and memset from
  * the C library and nothing else. mirror_survey uses less than 48 KiB of stack (MIRROR_STACK_BYTES), every other call less than 20 KiB
  * (measured, not proved). Calls may run at once in several threads if no buffer that one of them may write is lent to another. A call on a
- * volume is lent whole images, so on one volume only reads and surveys may run at once.
+ * volume is lent whole images, so on one volume only reads and surveys may run at once. Every call on one sector is lent the map to write,
+ * reads too: a read may run beside another read or a survey only if no other call is lent its map; else take a lock. Such a map says only
+ * what its own reads have met. Surveys and mirror_count_suspects only read the map: among themselves they may share one.
  *
  * SECRETS. What an attacker can guess, forge or measure is no claim of this library; SECURITY.md in the source tree says more.
  *   - Local and remote sector together give the plaintext WITHOUT the key (mirror_combine): whoever may read both needs no key.
@@ -57,7 +90,8 @@
  * POWER CUTS. The calls on a volume work on images in memory; the caller writes out the part that a call changed, and flushes it. What is
  * promised of a volume after a power cut holds if the caller sees to all of this (examples/medium.c does, with three files):
  *   - A call is FINISHED only once what it wrote is on the medium. Until then a power cut, whenever it comes and whatever is being done on
- *     other sectors, is a cut in that call, and so is writing out that fails. After it, load the images from the medium again.
+ *     other sectors, is a cut in that call, and so is writing out that fails. After it, load the images from the medium again, and start
+ *     the map anew.
  *   - So flush before the next call on the volume. If several calls are not finished when the power goes, it is a cut in each of them, and
  *     no two may be on one sector: that is outside the promise. A second stage over a first that is not on the medium can lose the sector.
  *   - Writing out one sector's part, cut or not, leaves every other sector as it was. A medium writes units, often of 512 bytes; 32 tags
@@ -68,11 +102,19 @@
  *   - The images are private memory. A call may store a tag byte by byte: in a shared mapping of the medium (mmap with MAP_SHARED) a kill
  *     or a power cut between two bytes leaves a mixture, and a second stage cut so loses the sector.
  *
- * FROM 0.3.0. No call and no stored byte changes. Compile again, since mirror_version() is compared with MIRROR_VERSION.
+ * FROM 0.4.0, and from 0.3.0, which has the same calls. Every call on a volume takes the map: `map, map_len` behind `remote_len`. No stored
+ * byte changes. A program has to do this:
+ *   - Lend MIRROR_MAP_WORDS(n) words for each volume, and start the map once, when the volume is opened. All its sectors are suspect then,
+ *     and reading or mending them clears.
+ *   - Name the two new fields of struct mirror_volume, `map` and `map_len`. Left out of an initialiser with named fields they are 0: the
+ *     program compiles as it is, and every call refuses 13.
+ *   - Give reads that run at once a map each, or a lock, for a read writes the map. One that refuses 6 or 7 sets a bit, and so does a mend;
+ *     before, every refusal left all that was lent as it was.
+ *   - Compile everything again, and compare mirror_version() with MIRROR_VERSION: what declares the functions for itself (another language,
+ *     a library opened by name) or was compiled with an older header is not warned.
  *
- * FROM 0.2.0. Every call with a key takes the volume's number behind it; give 0 for a volume of before, and its bytes stay as they are.
- * Compile everything again, and compare mirror_version() with MIRROR_VERSION: what declares the functions for itself (another language, a
- * library opened by name) or was compiled with an older header is not warned. For struct mirror_volume see its comment.
+ * FROM 0.2.0. Besides that, every call with a key takes the volume's number behind it; give 0 for a volume of before, and its bytes stay as
+ * they are. For struct mirror_volume see its comment.
  *
  * EXAMPLE. One sector, of volume 1, at address 7. For a volume see struct mirror_volume below, and examples/ in the source tree.
  *
@@ -96,8 +138,8 @@
 #include <stdint.h>
 
 /* The release that this header is of: a number, major*1000000 + minor*1000 + patch, which #if can compare, and the same as a text. */
-#define MIRROR_VERSION 4000
-#define MIRROR_VERSION_TEXT "0.4.0"
+#define MIRROR_VERSION 5000
+#define MIRROR_VERSION_TEXT "0.5.0"
 
 /* Sizes in bytes, and the sectors of the largest volume. */
 #define MIRROR_KEY_BYTES 32
@@ -106,6 +148,9 @@
 #define MIRROR_SECTOR_BYTES_MAX 4096
 #define MIRROR_VOLUME_SECTORS_MAX 65536
 #define MIRROR_STACK_BYTES 49152
+
+/* The 64-bit words of a map of n sectors: (n+63)/64, without overflow. A constant expression where n is one; n is evaluated twice. */
+#define MIRROR_MAP_WORDS(n) ((n) / 64 + ((n) % 64 != 0))
 
 /* Sides. */
 #define MIRROR_SIDE_LOCAL 0u
@@ -137,6 +182,7 @@
 #define MIRROR_REFUSED_SECTOR_NUMBER 9u /* the sector's number is not below n: sectors count from 0 */
 #define MIRROR_REFUSED_STAGE_ORDER 10u  /* this stage is not due: read the sector, mend it if doubtful, and begin with the first stage */
 #define MIRROR_REFUSED_LIST_LENGTH 11u  /* the list is shorter than n: lend one entry for each sector */
+#define MIRROR_REFUSED_MAP_LENGTH 13u   /* the map does not have exactly (n+63)/64 words: lend MIRROR_MAP_WORDS(n), and start it */
 
 /*
  * What a survey puts into counts[]: four counts that add up to n, and the health, which is whole * 1000 / n, rounded down. The list has the
@@ -225,9 +271,24 @@ MIRROR_ANSWER mirror_combine(const uint8_t *local, size_t local_len, const uint8
                              size_t out_len);
 
 /* ---- a volume. `volume` is its number, and `number` that of a sector. Both are integers, and the compiler does not tell them apart: where
- * they are exchanged and `volume` is below n, a blank is accepted and destroys the sector of that number. All images are lent to every call,
- * whole; a call may write only those that it takes without const. struct mirror_volume below saves the repeated arguments, and the exchange
- * with them. */
+ * they are exchanged and `volume` is below n, a blank is accepted and destroys the sector of that number. All images are lent to every
+ * call, whole, and behind them the map (see MAP), whose length map_len counts 64-bit words; a call may write only what it takes without
+ * const. struct mirror_volume below saves the repeated arguments, and the exchange with them. */
+
+/*
+ * Starts a map: sets the bits of all n sectors and clears those past n. Due when a volume is opened, and after a power cut.
+ *   8 n is not 1 to 65,536
+ *   13 map_len is not MIRROR_MAP_WORDS(n)
+ *   MIRROR_DONE
+ */
+MIRROR_ANSWER mirror_start_map(size_t n, uint64_t *map, size_t map_len);
+
+/*
+ * Counts the suspects: writes to *count how many of the map's bits 0 to n-1 are set. Bits past n do not count.
+ *   8, 13 as mirror_start_map: *count is as it was
+ *   MIRROR_DONE
+ */
+MIRROR_ANSWER mirror_count_suspects(size_t n, const uint64_t *map, size_t map_len, uint64_t *count);
 
 /*
  * Blanks one sector: seals a plaintext of s zeros into its part of all three images, whatever was there. Each sector of a new volume is
@@ -235,15 +296,17 @@ MIRROR_ANSWER mirror_combine(const uint8_t *local, size_t local_len, const uint8
  *   1 key_len is not 32
  *   2 s is not a sector size
  *   8 n is not 1 to 65,536, local_len or remote_len is not n*s, or tags_len is not n*16
+ *   13 map_len is not MIRROR_MAP_WORDS(n)
  *   9 number is not below n
- *   MIRROR_DONE
+ *   MIRROR_DONE: the sector's bit in the map is cleared
  */
 MIRROR_ANSWER mirror_blank(const uint8_t *key, size_t key_len, uint64_t volume, size_t s, size_t n, size_t number, uint8_t *local,
-                           size_t local_len, uint8_t *tags, size_t tags_len, uint8_t *remote, size_t remote_len);
+                           size_t local_len, uint8_t *tags, size_t tags_len, uint8_t *remote, size_t remote_len, uint64_t *map,
+                           size_t map_len);
 
 /*
  * A write is three calls with the same plaintext, in this order, each finished (see POWER CUTS) before the next begins. Each writes only
- * the sector's part of the one image that it takes without const.
+ * the sector's part of the one image that it takes without const, and the sector's bit in the map.
  *
  * Between the stages and after a cut in one, a read gives the old plaintext until the tag is written and the new one from then on, or it
  * refuses 7: that only if another plaintext fits two places, as the old or the new one does where both have the same tag. Read and mend
@@ -258,64 +321,67 @@ MIRROR_ANSWER mirror_blank(const uint8_t *key, size_t key_len, uint64_t volume, 
  * Second stage: writes the tag. 10 if the plaintext does not fit the local sector.
  * Third stage: writes the remote sector. 10 if the plaintext does not fit both local sector and tag.
  * After 10 from the second or third: read the sector, mend it if doubtful, and begin again with the first stage.
- *   1, 2, 8, 9 as mirror_blank
+ *   1, 2, 8, 13, 9 as mirror_blank
  *   3 plain_len is not s
- *   10 the stage is not due
- *   MIRROR_DONE
+ *   10 the stage is not due: the map is left alone, whatever the sector's state
+ *   MIRROR_DONE: the sector's bit in the map is set by the first and the second stage, and cleared by the third
  */
 MIRROR_ANSWER mirror_first_stage(const uint8_t *key, size_t key_len, uint64_t volume, size_t s, size_t n, size_t number,
                                  const uint8_t *plain, size_t plain_len, uint8_t *local, size_t local_len, const uint8_t *tags,
-                                 size_t tags_len, const uint8_t *remote, size_t remote_len);
+                                 size_t tags_len, const uint8_t *remote, size_t remote_len, uint64_t *map, size_t map_len);
 MIRROR_ANSWER mirror_second_stage(const uint8_t *key, size_t key_len, uint64_t volume, size_t s, size_t n, size_t number,
                                   const uint8_t *plain, size_t plain_len, const uint8_t *local, size_t local_len, uint8_t *tags,
-                                  size_t tags_len, const uint8_t *remote, size_t remote_len);
+                                  size_t tags_len, const uint8_t *remote, size_t remote_len, uint64_t *map, size_t map_len);
 MIRROR_ANSWER mirror_third_stage(const uint8_t *key, size_t key_len, uint64_t volume, size_t s, size_t n, size_t number,
                                  const uint8_t *plain, size_t plain_len, const uint8_t *local, size_t local_len, const uint8_t *tags,
-                                 size_t tags_len, uint8_t *remote, size_t remote_len);
+                                 size_t tags_len, uint8_t *remote, size_t remote_len, uint64_t *map, size_t map_len);
 
 /*
  * Reads one sector: judges it and writes its plaintext to out. It mends nothing: after MIRROR_DOUBTFUL_... call mirror_mend soon, for
  * damage to a second place can lose the sector.
- *   1, 2, 8, 9 as mirror_blank
+ *   1, 2, 8, 13, 9 as mirror_blank
  *   3 out_len is not s
- *   6 lost
- *   7 clashing
- *   MIRROR_WHOLE, MIRROR_DOUBTFUL_LOCAL, MIRROR_DOUBTFUL_TAG, MIRROR_DOUBTFUL_REMOTE: out has the plaintext
+ *   6 lost: the sector's bit in the map is set, and nothing else has changed
+ *   7 clashing: the same
+ *   MIRROR_WHOLE: out has the plaintext, and the bit is cleared
+ *   MIRROR_DOUBTFUL_LOCAL, MIRROR_DOUBTFUL_TAG, MIRROR_DOUBTFUL_REMOTE: out has the plaintext, and the bit is set
  */
 MIRROR_ANSWER mirror_read(const uint8_t *key, size_t key_len, uint64_t volume, size_t s, size_t n, size_t number, const uint8_t *local,
-                          size_t local_len, const uint8_t *tags, size_t tags_len, const uint8_t *remote, size_t remote_len, uint8_t *out,
-                          size_t out_len);
+                          size_t local_len, const uint8_t *tags, size_t tags_len, const uint8_t *remote, size_t remote_len, uint64_t *map,
+                          size_t map_len, uint8_t *out, size_t out_len);
 
 /*
  * Mends one sector: writes the doubtful place anew, as the one plaintext seals, and nothing if the sector is whole. The answer is what it
- * found before; afterwards the sector is whole. Where it refuses 6 or 7 it has written nothing. Write out the place that the answer names.
- * After a cut: mend again.
- *   1, 2, 8, 9 as mirror_blank
- *   6 lost
- *   7 clashing
- *   MIRROR_WHOLE: nothing is written
- *   MIRROR_DOUBTFUL_LOCAL, MIRROR_DOUBTFUL_TAG, MIRROR_DOUBTFUL_REMOTE: that place is written
+ * found before; afterwards the sector is whole. Where it refuses 6 or 7 it has written nothing but the sector's bit in the map. Write out
+ * the place that the answer names. After a cut: mend again.
+ *   1, 2, 8, 13, 9 as mirror_blank
+ *   6 lost: the sector's bit in the map is set, and nothing else has changed
+ *   7 clashing: the same
+ *   MIRROR_WHOLE: no image is written, and the bit is cleared
+ *   MIRROR_DOUBTFUL_LOCAL, MIRROR_DOUBTFUL_TAG, MIRROR_DOUBTFUL_REMOTE: that place is written, and the bit is cleared
  */
 MIRROR_ANSWER mirror_mend(const uint8_t *key, size_t key_len, uint64_t volume, size_t s, size_t n, size_t number, uint8_t *local,
-                          size_t local_len, uint8_t *tags, size_t tags_len, uint8_t *remote, size_t remote_len);
+                          size_t local_len, uint8_t *tags, size_t tags_len, uint8_t *remote, size_t remote_len, uint64_t *map,
+                          size_t map_len);
 
 /*
  * Surveys a volume: judges every sector and writes the five counts. The number of each sector that is not whole stands once at the front
- * of list: n - counts[MIRROR_COUNT_WHOLE] entries. Those behind are untouched. list_len counts entries, not bytes.
+ * of list: n - counts[MIRROR_COUNT_WHOLE] entries. Those behind are untouched. list_len counts entries, not bytes. The map is left as it
+ * is, whatever is found: mirror_count_suspects and counts[] may differ.
  *
  * The list is in repair order: the first counts[MIRROR_COUNT_LOST] entries are the lost sectors, the next counts[MIRROR_COUNT_CLASHING] the
  * clashing ones, the next counts[MIRROR_COUNT_DOUBTFUL] the doubtful ones; within a kind the numbers rise. So no read is needed to tell the
  * kinds, and the list is one value for a key, a volume's number and three images. The clashing ones begin at
  * list + counts[MIRROR_COUNT_LOST], the doubtful ones counts[MIRROR_COUNT_CLASHING] entries behind that.
- *   1, 2, 8 as mirror_blank
+ *   1, 2, 8, 13 as mirror_blank
  *   11 list_len is below n
  *   MIRROR_DONE: go by MIRROR_REFUSED_LOST and MIRROR_REFUSED_CLASHING above for the lost and the clashing sectors, and mend the doubtful.
  *       If counts[MIRROR_COUNT_WHOLE] is 0 the key or the volume's number may be wrong: look for the right ones before anything is
  *       blanked.
  */
 MIRROR_ANSWER mirror_survey(const uint8_t *key, size_t key_len, uint64_t volume, size_t s, size_t n, const uint8_t *local, size_t local_len,
-                            const uint8_t *tags, size_t tags_len, const uint8_t *remote, size_t remote_len, uint32_t *list, size_t list_len,
-                            uint64_t counts[MIRROR_COUNTS_LENGTH]);
+                            const uint8_t *tags, size_t tags_len, const uint8_t *remote, size_t remote_len, const uint64_t *map,
+                            size_t map_len, uint32_t *list, size_t list_len, uint64_t counts[MIRROR_COUNTS_LENGTH]);
 
 /* ---- written in this header, over the calls above */
 
@@ -359,6 +425,9 @@ static inline const char *mirror_text(uint32_t answer)
         return "this stage is not due: read the sector, mend it if it is doubtful, and begin again with the first stage";
     case MIRROR_REFUSED_LIST_LENGTH:
         return "the list is shorter than the count: lend one entry for each sector";
+    case MIRROR_REFUSED_MAP_LENGTH:
+        return "the map does not have exactly as many 64-bit words as the count needs: "
+               "lend one word for each 64 sectors begun, and start it";
     case MIRROR_DOUBTFUL_LOCAL:
         return "doubtful at the local sector";
     case MIRROR_DOUBTFUL_TAG:
@@ -370,26 +439,35 @@ static inline const char *mirror_text(uint32_t answer)
     }
 }
 
+/* Whether a sector is suspect: 1 if its bit in the map is set, else 0. It checks nothing: number is below the n of the map. */
+static inline int mirror_is_suspect(const uint64_t *map, size_t number)
+{
+    return (map[number / 64] >> (number % 64) & 1) != 0;
+}
+
 /*
  * A volume: what every call on it is given, named once, in the order of the calls' arguments. Each function below is the call of its name,
  * with the same answers, and the same is asked of the caller. Nothing is checked when the struct is filled: each call checks it whole.
- * It has the pointers alone, so key and images stay where they are as long as it is used. Lengths are in bytes.
+ * It has the pointers alone, so key, images and map stay where they are as long as it is used. Lengths are in bytes, the map's in words.
  *
- *   C99:    struct mirror_volume v = {.key = key, .key_len = sizeof key, .volume = 1, .s = 512, .n = 4,
+ *   C99:    uint64_t map[MIRROR_MAP_WORDS(4)];
+ *           struct mirror_volume v = {.key = key, .key_len = sizeof key, .volume = 1, .s = 512, .n = 4,
  *                                     .local = local, .local_len = sizeof local, .tags = tags, .tags_len = sizeof tags,
- *                                     .remote = remote, .remote_len = sizeof remote};
+ *                                     .remote = remote, .remote_len = sizeof remote, .map = map, .map_len = MIRROR_MAP_WORDS(4)};
  *   C++11:  mirror_volume v = {}; v.key = key; v.key_len = sizeof key; v.volume = 1; ...
- *   both:   uint32_t answer = mirror_volume_blank(&v, 2);
+ *   both:   uint32_t answer = mirror_volume_start_map(&v); (once, when the volume is opened)
+ *           if (answer == MIRROR_DONE) answer = mirror_volume_blank(&v, 2);
  *           if (answer != MIRROR_DONE) fprintf(stderr, "sector 2: %s\n", mirror_text(answer));
  *
- * Initialise it with named fields, as here, since a later release may have more of them, in other places. A field that is left out of
- * such an initialiser is 0: a length, s or n of 0 is refused, and a `volume` of 0 is the number 0. So a program that did so for release
- * 0.2.0 compiles as it is, and keeps its volume, whose number is 0. One that assigns the fields one by one, to a struct that it has not
- * initialised or to memory from malloc, must set `volume` too: else it is what happened to be there, and the compiler may not say so. One
- * that initialises by position adds it behind key_len: compilers may only warn. A new volume under a key that another volume has needs a
- * number of its own.
+ * Initialise it with named fields, as here, since a later release may have more of them, in other places. A field that is left out of such
+ * an initialiser is 0: a length, s or n of 0 is refused, and a `volume` of 0 is the number 0, which volumes of before release 0.3.0 have.
+ * So a program that did so for release 0.4.0 compiles as it is, and every call refuses 13 until it names `map` and `map_len`. One that
+ * assigns the fields one by one, to a struct that it has not initialised or to memory from malloc, must set `volume`, `map` and `map_len`
+ * too: else they are what happened to be there, and the compiler may not say so. One that initialises by position adds `volume` behind
+ * key_len, and the map at the end: compilers may only warn. A new volume under a key that another volume has needs a number of its own.
  *
- * The images are without const, since most calls write; for images that may only be read call mirror_read and mirror_survey themselves.
+ * Images and map are without const, since most calls write. For images that may only be read call mirror_read and mirror_survey themselves,
+ * mirror_read with a map that may be written.
  */
 struct mirror_volume {
     const uint8_t *key;
@@ -403,48 +481,62 @@ struct mirror_volume {
     size_t tags_len;
     uint8_t *remote;
     size_t remote_len;
+    uint64_t *map;
+    size_t map_len; /* in words of 64 bits: MIRROR_MAP_WORDS(n) */
 };
+
+/* mirror_start_map: when the volume is opened, and after a power cut. */
+static inline MIRROR_ANSWER mirror_volume_start_map(const struct mirror_volume *v)
+{
+    return mirror_start_map(v->n, v->map, v->map_len);
+}
+
+/* mirror_count_suspects: the count goes to *count. */
+static inline MIRROR_ANSWER mirror_volume_count_suspects(const struct mirror_volume *v, uint64_t *count)
+{
+    return mirror_count_suspects(v->n, v->map, v->map_len, count);
+}
 
 /* mirror_blank: a new sector of zeros. */
 static inline MIRROR_ANSWER mirror_volume_blank(const struct mirror_volume *v, size_t number)
 {
     return mirror_blank(v->key, v->key_len, v->volume, v->s, v->n, number, v->local, v->local_len, v->tags, v->tags_len, v->remote,
-                        v->remote_len);
+                        v->remote_len, v->map, v->map_len);
 }
 
 /* mirror_first_stage: writes the local sector. Write it out and flush it before the second stage. */
 static inline MIRROR_ANSWER mirror_volume_first_stage(const struct mirror_volume *v, size_t number, const uint8_t *plain, size_t plain_len)
 {
     return mirror_first_stage(v->key, v->key_len, v->volume, v->s, v->n, number, plain, plain_len, v->local, v->local_len, v->tags,
-                              v->tags_len, v->remote, v->remote_len);
+                              v->tags_len, v->remote, v->remote_len, v->map, v->map_len);
 }
 
 /* mirror_second_stage: writes the tag. Write it out and flush it before the third stage. */
 static inline MIRROR_ANSWER mirror_volume_second_stage(const struct mirror_volume *v, size_t number, const uint8_t *plain, size_t plain_len)
 {
     return mirror_second_stage(v->key, v->key_len, v->volume, v->s, v->n, number, plain, plain_len, v->local, v->local_len, v->tags,
-                               v->tags_len, v->remote, v->remote_len);
+                               v->tags_len, v->remote, v->remote_len, v->map, v->map_len);
 }
 
 /* mirror_third_stage: writes the remote sector. Write it out and flush it before the next call. */
 static inline MIRROR_ANSWER mirror_volume_third_stage(const struct mirror_volume *v, size_t number, const uint8_t *plain, size_t plain_len)
 {
     return mirror_third_stage(v->key, v->key_len, v->volume, v->s, v->n, number, plain, plain_len, v->local, v->local_len, v->tags,
-                              v->tags_len, v->remote, v->remote_len);
+                              v->tags_len, v->remote, v->remote_len, v->map, v->map_len);
 }
 
-/* mirror_read: the plaintext goes to out, which no image overlaps. */
+/* mirror_read: the plaintext goes to out, which overlaps no image and not the map. */
 static inline MIRROR_ANSWER mirror_volume_read(const struct mirror_volume *v, size_t number, uint8_t *out, size_t out_len)
 {
     return mirror_read(v->key, v->key_len, v->volume, v->s, v->n, number, v->local, v->local_len, v->tags, v->tags_len, v->remote,
-                       v->remote_len, out, out_len);
+                       v->remote_len, v->map, v->map_len, out, out_len);
 }
 
 /* mirror_mend: writes the place that the answer names. Write it out and flush it. */
 static inline MIRROR_ANSWER mirror_volume_mend(const struct mirror_volume *v, size_t number)
 {
     return mirror_mend(v->key, v->key_len, v->volume, v->s, v->n, number, v->local, v->local_len, v->tags, v->tags_len, v->remote,
-                       v->remote_len);
+                       v->remote_len, v->map, v->map_len);
 }
 
 /* mirror_survey: the numbers of the lost, then the clashing, then the doubtful sectors go to list, which has n entries or more. */
@@ -452,7 +544,7 @@ static inline MIRROR_ANSWER mirror_volume_survey(const struct mirror_volume *v, 
                                                  uint64_t counts[MIRROR_COUNTS_LENGTH])
 {
     return mirror_survey(v->key, v->key_len, v->volume, v->s, v->n, v->local, v->local_len, v->tags, v->tags_len, v->remote,
-                         v->remote_len, list, list_len, counts);
+                         v->remote_len, v->map, v->map_len, list, list_len, counts);
 }
 
 #ifdef __cplusplus

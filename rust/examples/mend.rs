@@ -1,9 +1,12 @@
 //! A small volume: blanked, written in three stages, damaged, judged, mended
-//! and surveyed.
+//! and surveyed. Each survey is printed with the suspects by the map.
 //!
 //! `cargo run --example mend`
 
-use mirror::{ByKind, Refusal, Volume, KEY_BYTES, TAG_BYTES};
+use mirror::{map_words, ByKind, Refusal, KEY_BYTES, TAG_BYTES};
+
+/// A volume that owns its images and its map.
+type Volume<'k> = mirror::Volume<'k, Vec<u8>, Vec<u64>>;
 
 /// The volume's number: each volume under a key has its own.
 const VOLUME: u64 = 1;
@@ -17,7 +20,9 @@ pub fn main() -> Result<(), Refusal> {
     }
     let local = vec![0; COUNT * SIZE];
     let (tags, remote) = (vec![0; COUNT * TAG_BYTES], local.clone());
-    let mut volume = Volume::new(&key, VOLUME, SIZE, COUNT, local, tags, remote);
+    let map = vec![0; map_words(COUNT)];
+    let mut volume = Volume::new(&key, VOLUME, SIZE, COUNT, local, tags, remote, map);
+    volume.start_map()?;
     show(&volume, "a new volume")?;
     for number in 0..COUNT {
         volume.blank(number)?;
@@ -31,7 +36,7 @@ pub fn main() -> Result<(), Refusal> {
 /// Writes a text to a sector: three stages with one plaintext. This volume is in
 /// memory only; on a medium, the part that is named behind a stage is written
 /// out and flushed before the next call.
-fn write(volume: &mut Volume<Vec<u8>>, number: usize, text: &[u8]) -> Result<(), Refusal> {
+fn write(volume: &mut Volume, number: usize, text: &[u8]) -> Result<(), Refusal> {
     let mut plaintext = [0; SIZE];
     plaintext[..text.len()].copy_from_slice(text);
     volume.first_stage(number, &plaintext)?; // volume.local_part(number)
@@ -43,7 +48,7 @@ fn write(volume: &mut Volume<Vec<u8>>, number: usize, text: &[u8]) -> Result<(),
 }
 
 /// Changes a byte of sector 2's local place, and mends it.
-fn damage_and_mend(volume: &mut Volume<Vec<u8>>) -> Result<(), Refusal> {
+fn damage_and_mend(volume: &mut Volume) -> Result<(), Refusal> {
     volume.local_mut()[2 * SIZE + 9] ^= 0xff;
     let mut plaintext = [0; SIZE];
     let verdict = volume.read(2, &mut plaintext)?;
@@ -57,8 +62,9 @@ fn damage_and_mend(volume: &mut Volume<Vec<u8>>) -> Result<(), Refusal> {
     show(volume, "sector 2 mended")
 }
 
-/// Damages two places of sector 3: no call can tell what it held.
-fn lose(volume: &mut Volume<Vec<u8>>) -> Result<(), Refusal> {
+/// Damages two places of sector 3: no call can tell what it held. It is suspect
+/// once a call on it has met the damage; a survey leaves the map alone.
+fn lose(volume: &mut Volume) -> Result<(), Refusal> {
     volume.local_mut()[3 * SIZE] ^= 1;
     volume.tags_mut()[3 * TAG_BYTES] ^= 1;
     show(volume, "two places of sector 3 damaged")?;
@@ -66,12 +72,13 @@ fn lose(volume: &mut Volume<Vec<u8>>) -> Result<(), Refusal> {
         Ok(verdict) => println!("mending sector 3, which was {verdict}"),
         Err(refusal) => println!("sector 3 cannot be mended: {refusal}"),
     }
+    show(volume, "the damage met")?;
     volume.blank(3)?;
     show(volume, "sector 3 blanked")
 }
 
-/// Prints a survey.
-fn show(volume: &Volume<Vec<u8>>, when: &str) -> Result<(), Refusal> {
+/// Prints a survey, and the suspects by the map.
+fn show(volume: &Volume, when: &str) -> Result<(), Refusal> {
     let mut list = [0; COUNT];
     let (survey, listed) = volume.survey(&mut list)?;
     let ByKind {
@@ -79,9 +86,14 @@ fn show(volume: &Volume<Vec<u8>>, when: &str) -> Result<(), Refusal> {
         clashing,
         doubtful,
     } = survey.by_kind(listed);
+    let suspects = (0..COUNT).filter(|&number| volume.is_suspect(number) == Some(true));
     println!(
-        "{when}: {} whole, health {}; lost {lost:?}, clashing {clashing:?}, doubtful {doubtful:?}",
-        survey.whole, survey.health
+        "{when}: {} whole, health {}; lost {lost:?}, clashing {clashing:?}, doubtful {doubtful:?}; \
+         {} suspect: {:?}",
+        survey.whole,
+        survey.health,
+        volume.count_suspects()?,
+        suspects.collect::<Vec<_>>()
     );
     Ok(())
 }

@@ -70,7 +70,10 @@ impl fmt::Display for Verdict {
     }
 }
 
-/// Why a call was turned away. It has changed nothing that it was lent.
+/// Why a call was turned away. It has changed nothing that it was lent, but for
+/// one bit: where [`read`](crate::Volume::read) or [`mend`](crate::Volume::mend)
+/// answers [`Lost`](Self::Lost) or [`Clashing`](Self::Clashing), the sector's bit
+/// of the map is set.
 ///
 /// The text ([`Display`](fmt::Display)) says what is wrong and what to do.
 ///
@@ -106,6 +109,9 @@ pub enum Refusal {
     StageOrder = 10,
     /// 11: the list is shorter than the count.
     ListLength = 11,
+    /// 13: the map does not have exactly as many 64-bit words as the count needs;
+    /// [`map_words`](crate::map_words) says how many.
+    MapLength = 13,
 }
 
 impl Refusal {
@@ -122,9 +128,11 @@ impl Refusal {
         Refusal::SectorNumber,
         Refusal::StageOrder,
         Refusal::ListLength,
+        Refusal::MapLength,
     ];
 
-    /// The library's number: 1 to 11.
+    /// The library's number: 1 to 11, or 13. The 12 is no call's: with it the
+    /// program `frames` answers what is no frame.
     pub fn number(self) -> u32 {
         self as u32
     }
@@ -151,6 +159,9 @@ impl Refusal {
             Refusal::SectorNumber => "the sector's number is not below the count",
             Refusal::StageOrder => "this stage is not due",
             Refusal::ListLength => "the list is shorter than the count",
+            Refusal::MapLength => {
+                "the map does not have exactly as many 64-bit words as the count needs"
+            }
         }
     }
 
@@ -179,6 +190,7 @@ impl Refusal {
                 "read the sector, mend it if it is doubtful, and begin again with the first stage"
             }
             Refusal::ListLength => "lend one entry for each sector",
+            Refusal::MapLength => "lend one word for each 64 sectors begun, and start it",
         }
     }
 }

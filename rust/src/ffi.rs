@@ -1,7 +1,8 @@
 //! The library's functions as `include/mirror.h` declares them.
 //!
 //! Each call is unsafe, and gives the number of its answer: 0, hexadecimal 81, 82
-//! or 83, or a refusal from 1 to 11. Places come in the order local, tag, remote.
+//! or 83, or a refusal, 1 to 11 or 13. Places come in the order local, tag,
+//! remote, and behind them comes the map of suspects, its length in 64-bit words.
 //! `volume` is the volume's number, and `number` that of a sector.
 //! The functions at the root of this crate and the methods of
 //! [`Volume`](crate::Volume) are the same calls on slices, and safe.
@@ -11,9 +12,10 @@
 //! A caller of any of these sees to it that
 //!
 //! - each pointer is valid for the length that follows it, in elements, and the
-//!   length in bytes is at most `isize::MAX`; `counts` is valid for five numbers;
-//! - a pointer is null only if its length is 0, and `counts` never is;
-//! - `list` and `counts` are aligned for their types;
+//!   length in bytes is at most `isize::MAX`; `counts` is valid for five numbers
+//!   and `count` for one;
+//! - a pointer is null only if its length is 0, and `counts` and `count` never are;
+//! - `map`, `list`, `counts` and `count` are aligned for their types;
 //! - a buffer that comes as `*mut` overlaps no other buffer of the call.
 //!
 //! Nothing else is asked: any lengths, numbers and bytes are safe.
@@ -109,6 +111,8 @@ extern "C" {
         tags_len: usize,
         remote: *mut u8,
         remote_len: usize,
+        map: *mut u64,
+        map_len: usize,
     ) -> u32;
 
     /// Writes the local sector of a plaintext.
@@ -127,6 +131,8 @@ extern "C" {
         tags_len: usize,
         remote: *const u8,
         remote_len: usize,
+        map: *mut u64,
+        map_len: usize,
     ) -> u32;
 
     /// Writes the tag of a plaintext.
@@ -145,6 +151,8 @@ extern "C" {
         tags_len: usize,
         remote: *const u8,
         remote_len: usize,
+        map: *mut u64,
+        map_len: usize,
     ) -> u32;
 
     /// Writes the remote sector of a plaintext.
@@ -163,6 +171,8 @@ extern "C" {
         tags_len: usize,
         remote: *mut u8,
         remote_len: usize,
+        map: *mut u64,
+        map_len: usize,
     ) -> u32;
 
     /// Judges one sector of a volume.
@@ -179,6 +189,8 @@ extern "C" {
         tags_len: usize,
         remote: *const u8,
         remote_len: usize,
+        map: *mut u64,
+        map_len: usize,
         out: *mut u8,
         out_len: usize,
     ) -> u32;
@@ -197,6 +209,8 @@ extern "C" {
         tags_len: usize,
         remote: *mut u8,
         remote_len: usize,
+        map: *mut u64,
+        map_len: usize,
     ) -> u32;
 
     /// Judges every sector. `counts` is given whole, doubtful, clashing, lost
@@ -214,8 +228,17 @@ extern "C" {
         tags_len: usize,
         remote: *const u8,
         remote_len: usize,
+        map: *const u64,
+        map_len: usize,
         list: *mut u32,
         list_len: usize,
         counts: *mut [u64; 5],
     ) -> u32;
+
+    /// Starts a map: sets the bits of all `n` sectors and clears those past them.
+    pub fn mirror_start_map(n: usize, map: *mut u64, map_len: usize) -> u32;
+
+    /// Counts the set bits of sectors 0 to `n` - 1. Refused, `count` is as it was.
+    pub fn mirror_count_suspects(n: usize, map: *const u64, map_len: usize, count: *mut u64)
+        -> u32;
 }

@@ -7,7 +7,7 @@
 //! two places as well ([`Clashing`](Refusal::Clashing)). A **volume** is one or
 //! more sectors in three images; sector `i`, from 0, has address `i`. The
 //! **volume's number** is any `u64`, one for each volume under a key; see
-//! [`Volume`].
+//! [`Volume`]. Beside the images comes a [map of suspects](#the-map-of-suspects).
 //!
 //! | what | how many bytes |
 //! |---|---|
@@ -15,13 +15,16 @@
 //! | plaintext, local sector, remote sector | the size, a multiple of 16 from 16 to 4,096 |
 //! | tag | 16 |
 //! | images of a volume of n sectors, n from 1 to 65,536 | local and remote n times the size, tags n times 16 |
+//! | map of a volume of n sectors | 8 for each 64 sectors begun: [`map_words`]`(n)` words of type `u64` |
 //!
 //! Lengths and numbers are not asked of the caller: every value is safe, and a
 //! wrong one is refused. Every volume's number and every address is accepted.
 //! Each call lists its refusals in the order in which it checks them. **A refused
-//! call has changed no byte that it was lent.** What the calls answer is proved of
-//! the library (`libmirror.a`, for x86-64 Linux); this crate only hands slices over
-//! and names the answers, and is tested, not proved.
+//! call has changed no byte that it was lent**, but for one bit: where a read or a
+//! mend answers [`Lost`](Refusal::Lost) or [`Clashing`](Refusal::Clashing), it has
+//! set the sector's bit of the map. What the calls answer is proved of the library
+//! (`libmirror.a`, for x86-64 Linux); this crate only hands slices over and names
+//! the answers, and is tested, not proved.
 //!
 //! # One sector
 //!
@@ -47,17 +50,19 @@
 //! # A volume
 //!
 //! A write is three stages with one plaintext, and what each wrote is on the
-//! medium before the next begins ([Power cuts](#power-cuts)). The images of a
+//! medium before the next begins ([Power cuts](#power-cuts)). Images and map of a
 //! [`Volume`] are lent or owned. Here `write_out` stands for what writes a part to
 //! the medium and flushes it.
 //!
 //! ```
-//! use mirror::{Place, Refusal, Verdict, Volume, KEY_BYTES, TAG_BYTES};
+//! use mirror::{map_words, Place, Refusal, Verdict, Volume, KEY_BYTES, TAG_BYTES};
 //!
 //! let (key, volume, size, count) = ([7; KEY_BYTES], 1, 512, 4);
 //! let local = vec![0; count * size];
 //! let (tags, remote) = (vec![0; count * TAG_BYTES], local.clone());
-//! let mut volume = Volume::new(&key, volume, size, count, local, tags, remote);
+//! let map = vec![0; map_words(count)];
+//! let mut volume = Volume::new(&key, volume, size, count, local, tags, remote, map);
+//! volume.start_map()?;
 //! # let write_out = |part: Option<&[u8]>| assert!(part.is_some());
 //! for i in 0..count {
 //!     volume.blank(i)?;
@@ -89,6 +94,61 @@
 //! # Ok::<(), Refusal>(())
 //! ```
 //!
+//! # The map of suspects
+//!
+//! The map says which sectors to look at, without judging all of them: it has one
+//! bit a sector, and a set bit means suspect. Sector `i` is bit `i` mod 64, lowest
+//! first, of word `i` / 64. [`Volume::start_map`] sets the bits of all sectors.
+//! From then on a call on one sector writes that sector's bit, by its answer:
+//!
+//! | call | answer | the sector's bit |
+//! |---|---|---|
+//! | blank, third stage | done | cleared |
+//! | mend | any verdict | cleared |
+//! | first stage, second stage | done | set |
+//! | read | whole | cleared |
+//! | read | doubtful | set |
+//! | read, mend | refused: [`Lost`](Refusal::Lost), [`Clashing`](Refusal::Clashing) | set |
+//! | any of these | another refusal, also [`StageOrder`](Refusal::StageOrder) on a lost sector | as it was |
+//!
+//! No other bit changes. A survey checks the map's length and leaves the map
+//! alone. [`Volume::count_suspects`] counts the suspects, [`Volume::is_suspect`]
+//! tells of one sector, and neither judges.
+//!
+//! ```
+//! use mirror::{Refusal, Verdict, Volume, KEY_BYTES};
+//!
+//! let key = [7; KEY_BYTES];
+//! let mut volume = Volume::new(&key, 1, 16, 4, [0; 64], [0; 64], [0; 64], [0]);
+//! volume.start_map()?;
+//! for number in 0..4 {
+//!     volume.blank(number)?;
+//! }
+//! assert_eq!(volume.count_suspects()?, 0);
+//!
+//! volume.remote_mut()[3 * 16] ^= 1; // no call has met this damage yet
+//! assert_eq!(volume.is_suspect(3), Some(false));
+//! assert_ne!(volume.read(3, &mut [0; 16])?, Verdict::Whole);
+//! assert_eq!((volume.is_suspect(3), volume.map()), (Some(true), &[0b1000][..]));
+//! volume.mend(3)?;
+//! assert_eq!(volume.count_suspects()?, 0);
+//! # Ok::<(), Refusal>(())
+//! ```
+//!
+//! **A map says what the calls that it was lent to have met, and nothing else:**
+//!
+//! - A set bit does not say that a sector is damaged. No call has written the bit
+//!   since the start, or a write has not had its third stage there, or the sector
+//!   was not whole when it was last read, or could not be mended. A read tells, and
+//!   clears the bit of a whole sector.
+//! - A clear bit says that a sector was whole after the call that last wrote the
+//!   bit. It is whole still where all calls with this map took one key, one
+//!   volume's number, one size and the count of the start, and nothing else wrote
+//!   the images or the map.
+//! - Damage that no call has met shows nowhere. A survey finds it, and sets no bit.
+//! - After a power cut, start the map anew: a call that was cut may have left its
+//!   sector in doubt, and no answer has set the bit.
+//!
 //! # Power cuts
 //!
 //! The calls work on images in memory; the caller writes out the part that a
@@ -98,7 +158,7 @@
 //! - **A call is finished only once what it wrote is on the medium.** Until then
 //!   a power cut, whenever it comes and whatever is being done on other sectors,
 //!   is a cut in that call, and so is writing out that fails. After it, load the
-//!   images from the medium again.
+//!   images from the medium again, and start the map anew.
 //! - **Flush before the next call on the volume.** If several calls are not
 //!   finished when the power goes, it is a cut in each of them, and no two may be
 //!   on one sector: that is outside the promise. A second stage over a first that
@@ -145,8 +205,12 @@
 //!
 //! A call keeps no state and allocates nothing. [`Volume::survey`] uses less than
 //! 48 KiB of stack, every other call less than 20 KiB (measured, not proved). A
-//! call may be made from any thread. One that writes borrows the whole volume, so
-//! on one volume only reads and surveys run at once.
+//! call may be made from any thread. A call on one sector borrows the whole volume
+//! by `&mut`, and so does a read, since it writes the map: on one volume only
+//! surveys and looks at the map run at once. To read in several threads, make a
+//! volume for each over the same images, lent as `&[u8]`, with a map of its own.
+//! Such a map says what its own reads have met; start it anew when the images have
+//! been written.
 //!
 //! # The library
 //!
@@ -162,11 +226,13 @@
 
 mod answer;
 pub mod ffi;
+mod map;
 mod sector;
 mod version;
 mod volume;
 
 pub use answer::{Place, Refusal, Side, Verdict};
+pub use map::{count_suspects, map_words, start_map};
 pub use sector::{combine, judge, open, rebuild, seal};
 pub use version::{version, VERSION};
 pub use volume::{ByKind, Survey, Volume};

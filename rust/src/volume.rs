@@ -3,9 +3,10 @@
 use core::fmt;
 
 use crate::answer::{done, judged};
-use crate::{ffi, Refusal, Verdict, TAG_BYTES};
+use crate::{ffi, map, Refusal, Verdict, TAG_BYTES};
 
-/// A volume: its key, its number, its shape and its three images.
+/// A volume: its key, its number, its shape, its three images and its map of
+/// suspects.
 ///
 /// Key and number belong to one volume: give each volume under a key a number of
 /// its own, and never use it again for another volume under that key. Volumes
@@ -16,6 +17,13 @@ use crate::{ffi, Refusal, Verdict, TAG_BYTES};
 /// any other that gives its bytes by [`AsRef`] and [`AsMut`]. To read and survey,
 /// [`AsRef`] is enough, as `&[u8]` has it.
 ///
+/// The map is lent or owned by itself: `&mut [u64]`, `Vec<u64>` or any other type
+/// that gives its words by [`AsRef`] and [`AsMut`]. [Start](Self::start_map) it
+/// before the first call. Calls on one sector write its bit, and a read does too:
+/// so it takes the volume by `&mut`. To survey and to look at the map, [`AsRef`]
+/// is enough, as `&[u64]` has it. See [the map of
+/// suspects](crate#the-map-of-suspects) for what a bit says.
+///
 /// The images are private memory, not a shared mapping of the medium, and the
 /// caller writes out what a call changed. A call is finished only once that is
 /// on the medium; a power cut before is a cut in that call. Flush before the next
@@ -23,22 +31,26 @@ use crate::{ffi, Refusal, Verdict, TAG_BYTES};
 /// medium has to keep.
 ///
 /// ```
-/// use mirror::{Refusal, Volume, KEY_BYTES, TAG_BYTES};
+/// use mirror::{map_words, Refusal, Volume, KEY_BYTES, TAG_BYTES};
 ///
 /// let (key, volume, size, count) = ([7; KEY_BYTES], 1, 512, 4);
 /// let local = vec![0; count * size];
 /// let (tags, remote) = (vec![0; count * TAG_BYTES], local.clone());
+/// let mut map = vec![0; map_words(count)];
 ///
-/// let reader = Volume::new(&key, volume, size, count, &local[..], &tags[..], &remote[..]);
+/// let mut reader = Volume::new(&key, volume, size, count, &local, &tags, &remote, &mut map);
+/// reader.start_map()?;
 /// assert_eq!(reader.read(0, &mut [0; 512]), Err(Refusal::Lost));
 ///
-/// let mut owner = Volume::new(&key, volume, size, count, local, tags, remote);
+/// let mut owner = Volume::new(&key, volume, size, count, local, tags, remote, map);
 /// owner.blank(0)?;
-/// let (local, tags, remote) = owner.into_images();
+/// assert_eq!(owner.count_suspects()?, 3);
+/// let (local, tags, remote, map) = owner.into_images_and_map();
+/// assert_eq!(map, [0b1110]);
 /// # Ok::<(), Refusal>(())
 /// ```
 #[derive(Clone)]
-pub struct Volume<'k, I> {
+pub struct Volume<'k, I, M> {
     key: &'k [u8],
     number: u64,
     size: usize,
@@ -46,11 +58,12 @@ pub struct Volume<'k, I> {
     local: I,
     tags: I,
     remote: I,
+    map: M,
 }
 
 /// Number and shape alone: the key is a secret, and local and remote image
 /// together give the plaintexts.
-impl<I> fmt::Debug for Volume<'_, I> {
+impl<I, M> fmt::Debug for Volume<'_, I, M> {
     fn fmt(&self, f: &mut fmt::Formatter<'_>) -> fmt::Result {
         f.debug_struct("Volume")
             .field("number", &self.number)
@@ -60,14 +73,17 @@ impl<I> fmt::Debug for Volume<'_, I> {
     }
 }
 
-impl<'k, I> Volume<'k, I> {
+impl<'k, I, M> Volume<'k, I, M> {
     /// The volume of number `volume`, with `count` sectors of `size` bytes, under a
     /// key of 32 bytes. The local and the remote image have `count` times `size`
-    /// bytes, the tag image `count` times 16.
+    /// bytes, the tag image `count` times 16, and the map
+    /// [`map_words(count)`](crate::map_words) words.
     ///
     /// Nothing is checked or written here: every call checks for itself, and
     /// refuses what is wrong. Every number is accepted. Under another one than the
     /// volume's a sector is lost, unless its plaintext has one tag under both.
+    // What the calls on a volume take, one parameter for each.
+    #[allow(clippy::too_many_arguments)]
     pub const fn new(
         key: &'k [u8],
         volume: u64,
@@ -76,6 +92,7 @@ impl<'k, I> Volume<'k, I> {
         local: I,
         tags: I,
         remote: I,
+        map: M,
     ) -> Self {
         Volume {
             key,
@@ -85,6 +102,7 @@ impl<'k, I> Volume<'k, I> {
             local,
             tags,
             remote,
+            map,
         }
     }
 
@@ -103,9 +121,15 @@ impl<'k, I> Volume<'k, I> {
         self.count
     }
 
-    /// Gives the images back: local, tags, remote.
+    /// Gives the images back: local, tags, remote. The map is dropped;
+    /// [`into_images_and_map`](Self::into_images_and_map) gives it too.
     pub fn into_images(self) -> (I, I, I) {
         (self.local, self.tags, self.remote)
+    }
+
+    /// Gives the images and the map back: local, tags, remote, map.
+    pub fn into_images_and_map(self) -> (I, I, I, M) {
+        (self.local, self.tags, self.remote, self.map)
     }
 
     /// The sector's part of an image with `bytes` for each sector.
@@ -118,7 +142,7 @@ impl<'k, I> Volume<'k, I> {
     }
 }
 
-impl<I: AsRef<[u8]>> Volume<'_, I> {
+impl<I: AsRef<[u8]>, M> Volume<'_, I, M> {
     /// The local image.
     pub fn local(&self) -> &[u8] {
         self.local.as_ref()
@@ -152,20 +176,70 @@ impl<I: AsRef<[u8]>> Volume<'_, I> {
     pub fn remote_part(&self, number: usize) -> Option<&[u8]> {
         self.part(self.remote(), number, self.size)
     }
+}
 
+impl<I, M: AsRef<[u64]>> Volume<'_, I, M> {
+    /// The map of suspects: sector `i` is bit `i` mod 64, lowest first, of word
+    /// `i` / 64.
+    pub fn map(&self) -> &[u64] {
+        self.map.as_ref()
+    }
+
+    /// How many sectors are suspect, by [the map](crate#the-map-of-suspects): its
+    /// set bits below the count. No sector is judged.
+    ///
+    /// # Errors
+    ///
+    /// As [`start_map`](Self::start_map).
+    pub fn count_suspects(&self) -> Result<u64, Refusal> {
+        map::count_suspects(self.count, self.map())
+    }
+
+    /// Whether one sector is suspect, by [the map](crate#the-map-of-suspects). None
+    /// if the number is not below the count, or the map is too short for its bit.
+    pub fn is_suspect(&self, number: usize) -> Option<bool> {
+        if number >= self.count {
+            return None;
+        }
+        map::bit(self.map(), number)
+    }
+}
+
+impl<I, M: AsMut<[u64]>> Volume<'_, I, M> {
+    /// Starts the map: sets the bits of all sectors, and clears those past them.
+    /// Do so before the first call on the volume, and anew after a [power
+    /// cut](crate#power-cuts). It looks at no key and no image.
+    ///
+    /// # Errors
+    ///
+    /// In this order: [`VolumeShape`](Refusal::VolumeShape) of the count;
+    /// [`MapLength`](Refusal::MapLength).
+    pub fn start_map(&mut self) -> Result<(), Refusal> {
+        map::start_map(self.count, self.map.as_mut())
+    }
+}
+
+impl<I: AsRef<[u8]>, M: AsMut<[u64]>> Volume<'_, I, M> {
     /// Reads one sector: judges it and writes its plaintext to the output.
     ///
     /// It mends nothing. If the sector is doubtful, [`mend`](Self::mend) it soon:
     /// damage to a second place can lose it. If it clashes and a write was under
     /// way, go on with the write's next stage.
     ///
+    /// It clears the sector's bit of the map where the verdict is whole, and sets
+    /// it where it is doubtful.
+    ///
     /// # Errors
     ///
-    /// Those of [`blank`](Self::blank), then in this order:
-    /// [`OtherLength`](Refusal::OtherLength) of the output;
-    /// [`Lost`](Refusal::Lost); [`Clashing`](Refusal::Clashing).
-    pub fn read(&self, number: usize, output: &mut [u8]) -> Result<Verdict, Refusal> {
-        let (local, tags, remote) = (self.local(), self.tags(), self.remote());
+    /// Those of [`blank`](Self::blank), [`MapLength`](Refusal::MapLength) among
+    /// them, then in this order: [`OtherLength`](Refusal::OtherLength) of the
+    /// output; [`Lost`](Refusal::Lost); [`Clashing`](Refusal::Clashing). The last
+    /// two set the sector's bit of the map, and change nothing else.
+    pub fn read(&mut self, number: usize, output: &mut [u8]) -> Result<Verdict, Refusal> {
+        let local = self.local.as_ref();
+        let tags = self.tags.as_ref();
+        let remote = self.remote.as_ref();
+        let map = self.map.as_mut();
         // SAFETY: as in `blank`.
         judged(unsafe {
             ffi::mirror_read(
@@ -181,12 +255,16 @@ impl<I: AsRef<[u8]>> Volume<'_, I> {
                 tags.len(),
                 remote.as_ptr(),
                 remote.len(),
+                map.as_mut_ptr(),
+                map.len(),
                 output.as_mut_ptr(),
                 output.len(),
             )
         })
     }
+}
 
+impl<I: AsRef<[u8]>, M: AsRef<[u64]>> Volume<'_, I, M> {
     /// Surveys the volume: judges every sector and counts the verdicts.
     ///
     /// The number of each sector that is not whole is written once to the front
@@ -196,14 +274,17 @@ impl<I: AsRef<[u8]>> Volume<'_, I> {
     /// one value for a key, a volume's number and three images, and
     /// [`Survey::by_kind`] tells the kinds without a read.
     ///
+    /// It checks the map's length, and leaves the map alone.
+    ///
     /// # Errors
     ///
     /// In this order: [`KeyLength`](Refusal::KeyLength);
     /// [`SectorSize`](Refusal::SectorSize);
     /// [`VolumeShape`](Refusal::VolumeShape);
-    /// [`ListLength`](Refusal::ListLength).
+    /// [`MapLength`](Refusal::MapLength); [`ListLength`](Refusal::ListLength).
     pub fn survey<'l>(&self, list: &'l mut [u32]) -> Result<(Survey, &'l [u32]), Refusal> {
         let (local, tags, remote) = (self.local(), self.tags(), self.remote());
+        let map = self.map();
         let mut counts = [0; 5];
         // SAFETY: as in `blank`, and the counts live through the call.
         done(unsafe {
@@ -219,6 +300,8 @@ impl<I: AsRef<[u8]>> Volume<'_, I> {
                 tags.len(),
                 remote.as_ptr(),
                 remote.len(),
+                map.as_ptr(),
+                map.len(),
                 list.as_mut_ptr(),
                 list.len(),
                 &mut counts,
@@ -229,7 +312,7 @@ impl<I: AsRef<[u8]>> Volume<'_, I> {
     }
 }
 
-impl<I: AsRef<[u8]> + AsMut<[u8]>> Volume<'_, I> {
+impl<I: AsMut<[u8]>, M> Volume<'_, I, M> {
     /// The local image, to be loaded from the medium.
     pub fn local_mut(&mut self) -> &mut [u8] {
         self.local.as_mut()
@@ -244,23 +327,29 @@ impl<I: AsRef<[u8]> + AsMut<[u8]>> Volume<'_, I> {
     pub fn remote_mut(&mut self) -> &mut [u8] {
         self.remote.as_mut()
     }
+}
 
+impl<I: AsRef<[u8]> + AsMut<[u8]>, M: AsMut<[u64]>> Volume<'_, I, M> {
     /// Blanks one sector: seals zeros into its part of all three images, whatever
     /// was there. Each sector of a new volume is blanked before its first write.
     /// A cut leaves anything in the sector: blank it again.
+    ///
+    /// It clears the sector's bit of the map.
     ///
     /// # Errors
     ///
     /// In this order: [`KeyLength`](Refusal::KeyLength);
     /// [`SectorSize`](Refusal::SectorSize);
     /// [`VolumeShape`](Refusal::VolumeShape);
+    /// [`MapLength`](Refusal::MapLength);
     /// [`SectorNumber`](Refusal::SectorNumber).
     pub fn blank(&mut self, number: usize) -> Result<(), Refusal> {
         let local = self.local.as_mut();
         let tags = self.tags.as_mut();
         let remote = self.remote.as_mut();
-        // SAFETY: each image is asked for its bytes once, since a type may give
-        // others when asked again. Each pointer and length is that of one slice,
+        let map = self.map.as_mut();
+        // SAFETY: each image and the map are asked for what they hold once, since a
+        // type may give something else when asked again. Each pointer and length is that of one slice,
         // which lives through the call; those that are written are borrowed
         // alone, so none overlaps.
         done(unsafe {
@@ -277,6 +366,8 @@ impl<I: AsRef<[u8]> + AsMut<[u8]>> Volume<'_, I> {
                 tags.len(),
                 remote.as_mut_ptr(),
                 remote.len(),
+                map.as_mut_ptr(),
+                map.len(),
             )
         })
     }
@@ -289,16 +380,19 @@ impl<I: AsRef<[u8]> + AsMut<[u8]>> Volume<'_, I> {
     /// a read gives in between: the old plaintext until the tag is written, then
     /// the new one, or [`Clashing`](Refusal::Clashing) until the write goes on.
     ///
+    /// It sets the sector's bit of the map; the third stage clears it.
+    ///
     /// # Errors
     ///
-    /// Those of [`blank`](Self::blank), then in this order:
-    /// [`OtherLength`](Refusal::OtherLength) of the plaintext;
-    /// [`StageOrder`](Refusal::StageOrder) if the sector is not whole: go by what
-    /// [`read`](Self::read) answers.
+    /// Those of [`blank`](Self::blank), [`MapLength`](Refusal::MapLength) among
+    /// them, then in this order: [`OtherLength`](Refusal::OtherLength) of the
+    /// plaintext; [`StageOrder`](Refusal::StageOrder) if the sector is not whole:
+    /// go by what [`read`](Self::read) answers.
     pub fn first_stage(&mut self, number: usize, plaintext: &[u8]) -> Result<(), Refusal> {
         let local = self.local.as_mut();
         let tags = self.tags.as_ref();
         let remote = self.remote.as_ref();
+        let map = self.map.as_mut();
         // SAFETY: as in `blank`.
         done(unsafe {
             ffi::mirror_first_stage(
@@ -316,6 +410,8 @@ impl<I: AsRef<[u8]> + AsMut<[u8]>> Volume<'_, I> {
                 tags.len(),
                 remote.as_ptr(),
                 remote.len(),
+                map.as_mut_ptr(),
+                map.len(),
             )
         })
     }
@@ -324,18 +420,19 @@ impl<I: AsRef<[u8]> + AsMut<[u8]>> Volume<'_, I> {
     /// [`tag_part`](Self::tag_part) in one write, and flush.
     ///
     /// It is accepted after the first stage with this plaintext also where a read
-    /// refuses [`Clashing`](Refusal::Clashing).
+    /// refuses [`Clashing`](Refusal::Clashing). It sets the sector's bit of the map.
     ///
     /// # Errors
     ///
-    /// Those of [`blank`](Self::blank), then in this order:
-    /// [`OtherLength`](Refusal::OtherLength) of the plaintext;
-    /// [`StageOrder`](Refusal::StageOrder) if the plaintext does not fit the
-    /// local sector.
+    /// Those of [`blank`](Self::blank), [`MapLength`](Refusal::MapLength) among
+    /// them, then in this order: [`OtherLength`](Refusal::OtherLength) of the
+    /// plaintext; [`StageOrder`](Refusal::StageOrder) if the plaintext does not fit
+    /// the local sector.
     pub fn second_stage(&mut self, number: usize, plaintext: &[u8]) -> Result<(), Refusal> {
         let local = self.local.as_ref();
         let tags = self.tags.as_mut();
         let remote = self.remote.as_ref();
+        let map = self.map.as_mut();
         // SAFETY: as in `blank`.
         done(unsafe {
             ffi::mirror_second_stage(
@@ -353,6 +450,8 @@ impl<I: AsRef<[u8]> + AsMut<[u8]>> Volume<'_, I> {
                 tags.len(),
                 remote.as_ptr(),
                 remote.len(),
+                map.as_mut_ptr(),
+                map.len(),
             )
         })
     }
@@ -361,18 +460,20 @@ impl<I: AsRef<[u8]> + AsMut<[u8]>> Volume<'_, I> {
     /// out [`remote_part`](Self::remote_part), and flush.
     ///
     /// It is accepted after the second stage with this plaintext also where a
-    /// read refuses [`Clashing`](Refusal::Clashing), and ends the clash.
+    /// read refuses [`Clashing`](Refusal::Clashing), and ends the clash. It clears
+    /// the sector's bit of the map.
     ///
     /// # Errors
     ///
-    /// Those of [`blank`](Self::blank), then in this order:
-    /// [`OtherLength`](Refusal::OtherLength) of the plaintext;
-    /// [`StageOrder`](Refusal::StageOrder) if the plaintext does not fit both the
-    /// local sector and the tag.
+    /// Those of [`blank`](Self::blank), [`MapLength`](Refusal::MapLength) among
+    /// them, then in this order: [`OtherLength`](Refusal::OtherLength) of the
+    /// plaintext; [`StageOrder`](Refusal::StageOrder) if the plaintext does not fit
+    /// both the local sector and the tag.
     pub fn third_stage(&mut self, number: usize, plaintext: &[u8]) -> Result<(), Refusal> {
         let local = self.local.as_ref();
         let tags = self.tags.as_ref();
         let remote = self.remote.as_mut();
+        let map = self.map.as_mut();
         // SAFETY: as in `blank`.
         done(unsafe {
             ffi::mirror_third_stage(
@@ -390,6 +491,8 @@ impl<I: AsRef<[u8]> + AsMut<[u8]>> Volume<'_, I> {
                 tags.len(),
                 remote.as_mut_ptr(),
                 remote.len(),
+                map.as_mut_ptr(),
+                map.len(),
             )
         })
     }
@@ -397,17 +500,21 @@ impl<I: AsRef<[u8]> + AsMut<[u8]>> Volume<'_, I> {
     /// Mends one sector: writes the doubtful place anew, as the one plaintext
     /// seals, and nothing if the sector is whole.
     ///
-    /// The verdict is what it found before; afterwards the sector is whole. Write
-    /// out the part that it names, and flush. After a cut, mend again.
+    /// The verdict is what it found before; afterwards the sector is whole, and its
+    /// bit of the map clear. Write out the part that it names, and flush. After a
+    /// cut, mend again.
     ///
     /// # Errors
     ///
-    /// Those of [`blank`](Self::blank), then in this order:
-    /// [`Lost`](Refusal::Lost); [`Clashing`](Refusal::Clashing).
+    /// Those of [`blank`](Self::blank), [`MapLength`](Refusal::MapLength) among
+    /// them, then in this order: [`Lost`](Refusal::Lost);
+    /// [`Clashing`](Refusal::Clashing). These two set the sector's bit of the map,
+    /// and change nothing else.
     pub fn mend(&mut self, number: usize) -> Result<Verdict, Refusal> {
         let local = self.local.as_mut();
         let tags = self.tags.as_mut();
         let remote = self.remote.as_mut();
+        let map = self.map.as_mut();
         // SAFETY: as in `blank`.
         judged(unsafe {
             ffi::mirror_mend(
@@ -423,6 +530,8 @@ impl<I: AsRef<[u8]> + AsMut<[u8]>> Volume<'_, I> {
                 tags.len(),
                 remote.as_mut_ptr(),
                 remote.len(),
+                map.as_mut_ptr(),
+                map.len(),
             )
         })
     }
@@ -462,7 +571,7 @@ impl Survey {
     /// use mirror::{ByKind, Refusal, Volume, KEY_BYTES};
     ///
     /// let key = [7; KEY_BYTES];
-    /// let mut volume = Volume::new(&key, 1, 16, 4, vec![0; 64], vec![0; 64], vec![0; 64]);
+    /// let mut volume = Volume::new(&key, 1, 16, 4, [0; 64], [0; 64], [0; 64], [0]);
     /// for number in [0, 1, 3] {
     ///     volume.blank(number)?;
     /// }

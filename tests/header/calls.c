@@ -12,7 +12,7 @@
 #error "MIRROR_VERSION is below that of the first release, 0.1.0"
 #endif
 
-enum { SIZE = 32, COUNT = 3, ENTRIES = COUNT + 1, BUFFERS = 11 };
+enum { SIZE = 32, COUNT = 3, ENTRIES = COUNT + 1, WORDS = 1, BUFFERS = 13 };
 static const uint64_t ADDRESS = 0x0102030405060708, VOLUME = 0xf1f2f3f4f5f6f7f8;
 
 /* A sector as it is stored. */
@@ -47,7 +47,7 @@ void check(int holds, int line, const char *text, const char *what)
     }
 }
 
-static void answers(uint32_t due, uint32_t answer, int line, const char *call)
+void answers(uint32_t due, uint32_t answer, int line, const char *call)
 {
     char what[64];
     sprintf(what, "answers %lx and not %lx (hexadecimal)", (unsigned long)answer, (unsigned long)due);
@@ -87,9 +87,9 @@ static uint8_t *lend(const char *name, size_t length)
     return l->at;
 }
 
-static uint8_t *key, *plain, *local, *tag, *remote, *out, *locals, *tags, *remotes, *list_bytes, *count_bytes;
+static uint8_t *key, *plain, *local, *tag, *remote, *out, *locals, *tags, *remotes, *list_bytes, *count_bytes, *map_bytes;
 static uint32_t *list;
-static uint64_t *counts;
+static uint64_t *counts, *map, *longer_map;
 
 /* From here on every buffer is due as it is now. The output has bytes that no call gives, so that a call that does not write it shows. */
 static void keep(void)
@@ -125,11 +125,35 @@ static void as_due(int line, const char *call)
     }
 }
 
-/* A call gives an answer; DUE then names what it writes, and NO_MORE says that every other byte is as before. */
-#define GIVES(answer, call) (keep(), answers(answer, call, __LINE__, #call))
+/* The map's one word as a call has to leave it. */
+static uint64_t marked;
+
+/* The bit of a sector is due set, or clear. It is made the other way round, so that a call that leaves it shows. */
+static void mark(size_t number, int set)
+{
+    static const uint64_t BITS[COUNT] = {1, 2, 4};
+    marked = set ? *map | BITS[number] : *map & ~BITS[number];
+    *map = marked ^ BITS[number];
+}
+
+static void turn_map(void) { *map = ~*map; }
+
+/* A call gives an answer; DUE then names what it writes, and NO_MORE says that every other byte is as before. SETS and CLEARS are of a call
+ * that sets or clears the bit of this sector in the map. */
+#define MAKES(answer, call, text) (keep(), answers(answer, call, __LINE__, text))
+#define GIVES(answer, call) MAKES(answer, call, #call)
 #define DUE(at, bytes, length) due(at, bytes, length, __LINE__)
+#define DUE_MAP DUE(map_bytes, &marked, sizeof marked)
 #define NO_MORE(call) as_due(__LINE__, call)
-#define REFUSES(refusal, call) (keep(), answers(refusal, call, __LINE__, #call), as_due(__LINE__, #call))
+#define SETS(number, answer, call) (mark(number, 1), MAKES(answer, call, #call), DUE_MAP)
+#define CLEARS(number, answer, call) (mark(number, 0), MAKES(answer, call, #call), DUE_MAP)
+
+/* A refused call changes nothing; it is made with each bit of the map set, and clear. SUSPECTS is of 6 and 7 from a read or a mend: the
+ * call sets the bit of this sector, changes nothing else, and made again leaves it so. */
+#define LEAVES(refusal, call, text) (MAKES(refusal, call, text), NO_MORE(text))
+#define REFUSES(refusal, call) (LEAVES(refusal, call, #call), turn_map(), LEAVES(refusal, call, #call))
+#define SUSPECTS(number, refusal, call) \
+    (mark(number, 1), MAKES(refusal, call, #call), DUE_MAP, NO_MORE(#call), LEAVES(refusal, call, #call))
 
 /* ---- the arguments */
 
@@ -145,6 +169,8 @@ static void as_due(int line, const char *call)
 #define LOCALS locals, COUNT *SIZE
 #define TAGS tags, COUNT *MIRROR_TAG_BYTES
 #define REMOTES remotes, COUNT *SIZE
+#define MAP map, WORDS
+#define LONGER_MAP longer_map, WORDS + 1
 #define LIST list, COUNT
 
 static void lend_all(void)
@@ -160,8 +186,11 @@ static void lend_all(void)
     remotes = lend("the remote image", COUNT * SIZE);
     list_bytes = lend("the list", ENTRIES * sizeof(uint32_t));
     count_bytes = lend("the counts", MIRROR_COUNTS_LENGTH * sizeof(uint64_t));
+    map_bytes = lend("the map", WORDS * sizeof(uint64_t));
+    longer_map = (uint64_t *)(void *)lend("the map that is too long", (WORDS + 1) * sizeof(uint64_t));
     list = (uint32_t *)(void *)list_bytes;
     counts = (uint64_t *)(void *)count_bytes;
+    map = (uint64_t *)(void *)map_bytes;
 }
 
 static void fill(uint8_t *at, size_t length, unsigned first)
@@ -234,6 +263,7 @@ static void refusals(void)
     IS(MIRROR_REFUSED_SECTOR_NUMBER, 9);
     IS(MIRROR_REFUSED_STAGE_ORDER, 10);
     IS(MIRROR_REFUSED_LIST_LENGTH, 11);
+    IS(MIRROR_REFUSED_MAP_LENGTH, 13);
 }
 
 /* Header and library are of one release, and the header's number and text are. */
@@ -249,7 +279,8 @@ static void version(void)
 
 static int is_answer(uint32_t number)
 {
-    return number <= MIRROR_REFUSED_LIST_LENGTH || (number >= MIRROR_DOUBTFUL_LOCAL && number <= MIRROR_DOUBTFUL_REMOTE);
+    return number <= MIRROR_REFUSED_LIST_LENGTH || number == MIRROR_REFUSED_MAP_LENGTH ||
+           (number >= MIRROR_DOUBTFUL_LOCAL && number <= MIRROR_DOUBTFUL_REMOTE);
 }
 
 /* Answers have texts of their own (texts.c prints them), and all other numbers one text: all below 1000, and some beyond. */
@@ -442,19 +473,21 @@ static void blanks(void)
     memset(plain, 0, SIZE);
     for (number = 0; number < COUNT; number++) {
         sealed(number);
-        GIVES(MIRROR_DONE, mirror_blank(SHAPED, number, IMAGES));
+        CLEARS(number, MIRROR_DONE, mirror_blank(SHAPED, number, IMAGES, MAP));
         due_part(number);
         NO_MORE("mirror_blank");
     }
-    REFUSES(MIRROR_REFUSED_SECTOR_NUMBER, mirror_blank(SHAPED, COUNT, IMAGES));
-    REFUSES(MIRROR_REFUSED_VOLUME_SHAPE, mirror_blank(KEYED, SIZE, 0, COUNT, NOTHING, NOTHING, NOTHING));
-    REFUSES(MIRROR_REFUSED_VOLUME_SHAPE, mirror_blank(KEYED, SIZE, MIRROR_VOLUME_SECTORS_MAX + 1, 0, IMAGES));
-    REFUSES(MIRROR_REFUSED_VOLUME_SHAPE, mirror_blank(SHAPED, COUNT, NOTHING, TAGS, REMOTES));
-    REFUSES(MIRROR_REFUSED_VOLUME_SHAPE, mirror_blank(SHAPED, COUNT, LOCALS, NOTHING, REMOTES));
-    REFUSES(MIRROR_REFUSED_VOLUME_SHAPE, mirror_blank(SHAPED, COUNT, LOCALS, TAGS, remotes, SIZE));
-    REFUSES(MIRROR_REFUSED_SECTOR_SIZE, mirror_blank(KEYED, 15, 0, COUNT, IMAGES));
-    REFUSES(MIRROR_REFUSED_SECTOR_SIZE, mirror_blank(KEYED, 4112, 0, COUNT, IMAGES));
-    REFUSES(MIRROR_REFUSED_KEY_LENGTH, mirror_blank(NO_KEY, 15, 0, COUNT, NOTHING, NOTHING, NOTHING));
+    REFUSES(MIRROR_REFUSED_SECTOR_NUMBER, mirror_blank(SHAPED, COUNT, IMAGES, MAP));
+    REFUSES(MIRROR_REFUSED_MAP_LENGTH, mirror_blank(SHAPED, COUNT, IMAGES, NOTHING));
+    REFUSES(MIRROR_REFUSED_MAP_LENGTH, mirror_blank(SHAPED, 0, IMAGES, LONGER_MAP));
+    REFUSES(MIRROR_REFUSED_VOLUME_SHAPE, mirror_blank(KEYED, SIZE, 0, COUNT, NOTHING, NOTHING, NOTHING, NOTHING));
+    REFUSES(MIRROR_REFUSED_VOLUME_SHAPE, mirror_blank(KEYED, SIZE, MIRROR_VOLUME_SECTORS_MAX + 1, 0, IMAGES, MAP));
+    REFUSES(MIRROR_REFUSED_VOLUME_SHAPE, mirror_blank(SHAPED, COUNT, NOTHING, TAGS, REMOTES, NOTHING));
+    REFUSES(MIRROR_REFUSED_VOLUME_SHAPE, mirror_blank(SHAPED, COUNT, LOCALS, NOTHING, REMOTES, LONGER_MAP));
+    REFUSES(MIRROR_REFUSED_VOLUME_SHAPE, mirror_blank(SHAPED, COUNT, LOCALS, TAGS, remotes, SIZE, NOTHING));
+    REFUSES(MIRROR_REFUSED_SECTOR_SIZE, mirror_blank(KEYED, 15, 0, COUNT, IMAGES, NOTHING));
+    REFUSES(MIRROR_REFUSED_SECTOR_SIZE, mirror_blank(KEYED, 4112, 0, COUNT, IMAGES, MAP));
+    REFUSES(MIRROR_REFUSED_KEY_LENGTH, mirror_blank(NO_KEY, 15, 0, COUNT, NOTHING, NOTHING, NOTHING, LONGER_MAP));
     puts("calls: mirror_blank");
 }
 
@@ -465,23 +498,23 @@ static void stages(void)
     memset(zeros, 0, SIZE);
     fill(plain, SIZE, 0x40);
     sealed(1);
-    REFUSES(MIRROR_REFUSED_STAGE_ORDER, mirror_second_stage(SHAPED, 1, PLAIN, IMAGES));
-    REFUSES(MIRROR_REFUSED_STAGE_ORDER, mirror_third_stage(SHAPED, 1, PLAIN, IMAGES));
-    GIVES(MIRROR_DONE, mirror_first_stage(SHAPED, 1, PLAIN, IMAGES));
+    REFUSES(MIRROR_REFUSED_STAGE_ORDER, mirror_second_stage(SHAPED, 1, PLAIN, IMAGES, MAP));
+    REFUSES(MIRROR_REFUSED_STAGE_ORDER, mirror_third_stage(SHAPED, 1, PLAIN, IMAGES, MAP));
+    SETS(1, MIRROR_DONE, mirror_first_stage(SHAPED, 1, PLAIN, IMAGES, MAP));
     DUE(locals + SIZE, local, SIZE);
     NO_MORE("mirror_first_stage");
-    REFUSES(MIRROR_REFUSED_STAGE_ORDER, mirror_first_stage(SHAPED, 1, PLAIN, IMAGES));
-    REFUSES(MIRROR_REFUSED_STAGE_ORDER, mirror_third_stage(SHAPED, 1, PLAIN, IMAGES));
-    GIVES(MIRROR_DOUBTFUL_LOCAL, mirror_read(SHAPED, 1, IMAGES, OUT));
+    REFUSES(MIRROR_REFUSED_STAGE_ORDER, mirror_first_stage(SHAPED, 1, PLAIN, IMAGES, MAP));
+    REFUSES(MIRROR_REFUSED_STAGE_ORDER, mirror_third_stage(SHAPED, 1, PLAIN, IMAGES, MAP));
+    SETS(1, MIRROR_DOUBTFUL_LOCAL, mirror_read(SHAPED, 1, IMAGES, MAP, OUT));
     DUE(out, zeros, SIZE);
     NO_MORE("mirror_read after the first stage");
-    GIVES(MIRROR_DONE, mirror_second_stage(SHAPED, 1, PLAIN, IMAGES));
+    SETS(1, MIRROR_DONE, mirror_second_stage(SHAPED, 1, PLAIN, IMAGES, MAP));
     DUE(tags + MIRROR_TAG_BYTES, tag, MIRROR_TAG_BYTES);
     NO_MORE("mirror_second_stage");
-    GIVES(MIRROR_DOUBTFUL_REMOTE, mirror_read(SHAPED, 1, IMAGES, OUT));
+    SETS(1, MIRROR_DOUBTFUL_REMOTE, mirror_read(SHAPED, 1, IMAGES, MAP, OUT));
     DUE(out, plain, SIZE);
     NO_MORE("mirror_read after the second stage");
-    GIVES(MIRROR_DONE, mirror_third_stage(SHAPED, 1, PLAIN, IMAGES));
+    CLEARS(1, MIRROR_DONE, mirror_third_stage(SHAPED, 1, PLAIN, IMAGES, MAP));
     DUE(remotes + SIZE, remote, SIZE);
     NO_MORE("mirror_third_stage");
 }
@@ -489,9 +522,9 @@ static void stages(void)
 /* Reads and mends of sector 1 refuse while its write stands at a clash, and a first stage is not due. */
 static void clashes_between(void)
 {
-    REFUSES(MIRROR_REFUSED_CLASHING, mirror_read(SHAPED, 1, IMAGES, OUT));
-    REFUSES(MIRROR_REFUSED_CLASHING, mirror_mend(SHAPED, 1, IMAGES));
-    REFUSES(MIRROR_REFUSED_STAGE_ORDER, mirror_first_stage(SHAPED, 1, PLAIN, IMAGES));
+    SUSPECTS(1, MIRROR_REFUSED_CLASHING, mirror_read(SHAPED, 1, IMAGES, MAP, OUT));
+    SUSPECTS(1, MIRROR_REFUSED_CLASHING, mirror_mend(SHAPED, 1, IMAGES, MAP));
+    REFUSES(MIRROR_REFUSED_STAGE_ORDER, mirror_first_stage(SHAPED, 1, PLAIN, IMAGES, MAP));
 }
 
 /* A write of (h, 1) over (h, 0), which have one tag: between the stages both fit two places. The next stage is due all the same. */
@@ -503,56 +536,60 @@ static void stages_of_equal_tags(void)
     put_part(1);
     plain[SIZE - 1] = 1;
     sealed(1);
-    GIVES(MIRROR_DONE, mirror_first_stage(SHAPED, 1, PLAIN, IMAGES));
+    SETS(1, MIRROR_DONE, mirror_first_stage(SHAPED, 1, PLAIN, IMAGES, MAP));
     DUE(locals + SIZE, local, SIZE);
     NO_MORE("mirror_first_stage into a clash");
     clashes_between();
-    GIVES(MIRROR_DONE, mirror_second_stage(SHAPED, 1, PLAIN, IMAGES));
+    SETS(1, MIRROR_DONE, mirror_second_stage(SHAPED, 1, PLAIN, IMAGES, MAP));
     NO_MORE("mirror_second_stage of the same tag");
     clashes_between();
-    GIVES(MIRROR_DONE, mirror_third_stage(SHAPED, 1, PLAIN, IMAGES));
+    CLEARS(1, MIRROR_DONE, mirror_third_stage(SHAPED, 1, PLAIN, IMAGES, MAP));
     DUE(remotes + SIZE, remote, SIZE);
     NO_MORE("mirror_third_stage out of a clash");
 }
 
-typedef uint32_t (*Stage)(size_t, size_t, size_t, size_t, const uint8_t *, size_t);
+typedef uint32_t (*Stage)(size_t, size_t, size_t, size_t, const uint8_t *, size_t, uint64_t *, size_t);
 
-static uint32_t first(size_t key_len, size_t s, size_t n, size_t number, const uint8_t *p, size_t length)
+static uint32_t first(size_t key_len, size_t s, size_t n, size_t number, const uint8_t *p, size_t length, uint64_t *m, size_t words)
 {
-    return mirror_first_stage(key, key_len, VOLUME, s, n, number, p, length, IMAGES);
+    return mirror_first_stage(key, key_len, VOLUME, s, n, number, p, length, IMAGES, m, words);
 }
 
-static uint32_t second(size_t key_len, size_t s, size_t n, size_t number, const uint8_t *p, size_t length)
+static uint32_t second(size_t key_len, size_t s, size_t n, size_t number, const uint8_t *p, size_t length, uint64_t *m, size_t words)
 {
-    return mirror_second_stage(key, key_len, VOLUME, s, n, number, p, length, IMAGES);
+    return mirror_second_stage(key, key_len, VOLUME, s, n, number, p, length, IMAGES, m, words);
 }
 
-static uint32_t third(size_t key_len, size_t s, size_t n, size_t number, const uint8_t *p, size_t length)
+static uint32_t third(size_t key_len, size_t s, size_t n, size_t number, const uint8_t *p, size_t length, uint64_t *m, size_t words)
 {
-    return mirror_third_stage(key, key_len, VOLUME, s, n, number, p, length, IMAGES);
+    return mirror_third_stage(key, key_len, VOLUME, s, n, number, p, length, IMAGES, m, words);
 }
 
 static void stage_refuses(Stage stage, const char *name)
 {
-    REFUSES(MIRROR_REFUSED_OTHER_LENGTH, stage(MIRROR_KEY_BYTES, SIZE, COUNT, 1, NOTHING));
-    REFUSES(MIRROR_REFUSED_OTHER_LENGTH, stage(MIRROR_KEY_BYTES, SIZE, COUNT, 1, plain, 16));
-    REFUSES(MIRROR_REFUSED_SECTOR_NUMBER, stage(MIRROR_KEY_BYTES, SIZE, COUNT, COUNT, NOTHING));
-    REFUSES(MIRROR_REFUSED_VOLUME_SHAPE, stage(MIRROR_KEY_BYTES, SIZE, COUNT + 1, COUNT + 1, NOTHING));
-    REFUSES(MIRROR_REFUSED_SECTOR_SIZE, stage(MIRROR_KEY_BYTES, 0, COUNT + 1, COUNT + 1, NOTHING));
-    REFUSES(MIRROR_REFUSED_KEY_LENGTH, stage(0, 0, COUNT + 1, COUNT + 1, NOTHING));
+    REFUSES(MIRROR_REFUSED_OTHER_LENGTH, stage(MIRROR_KEY_BYTES, SIZE, COUNT, 1, NOTHING, MAP));
+    REFUSES(MIRROR_REFUSED_OTHER_LENGTH, stage(MIRROR_KEY_BYTES, SIZE, COUNT, 1, plain, 16, MAP));
+    REFUSES(MIRROR_REFUSED_SECTOR_NUMBER, stage(MIRROR_KEY_BYTES, SIZE, COUNT, COUNT, NOTHING, MAP));
+    REFUSES(MIRROR_REFUSED_MAP_LENGTH, stage(MIRROR_KEY_BYTES, SIZE, COUNT, COUNT, NOTHING, NOTHING));
+    REFUSES(MIRROR_REFUSED_MAP_LENGTH, stage(MIRROR_KEY_BYTES, SIZE, COUNT, 1, NOTHING, LONGER_MAP));
+    REFUSES(MIRROR_REFUSED_VOLUME_SHAPE, stage(MIRROR_KEY_BYTES, SIZE, COUNT + 1, COUNT + 1, NOTHING, NOTHING));
+    REFUSES(MIRROR_REFUSED_SECTOR_SIZE, stage(MIRROR_KEY_BYTES, 0, COUNT + 1, COUNT + 1, NOTHING, NOTHING));
+    REFUSES(MIRROR_REFUSED_KEY_LENGTH, stage(0, 0, COUNT + 1, COUNT + 1, NOTHING, NOTHING));
     printf("calls: %s\n", name);
 }
 
 static void reads(void)
 {
-    GIVES(MIRROR_WHOLE, mirror_read(SHAPED, 1, IMAGES, OUT));
+    CLEARS(1, MIRROR_WHOLE, mirror_read(SHAPED, 1, IMAGES, MAP, OUT));
     DUE(out, plain, SIZE);
     NO_MORE("mirror_read");
-    REFUSES(MIRROR_REFUSED_OTHER_LENGTH, mirror_read(SHAPED, 1, IMAGES, NOTHING));
-    REFUSES(MIRROR_REFUSED_SECTOR_NUMBER, mirror_read(SHAPED, COUNT, IMAGES, NOTHING));
-    REFUSES(MIRROR_REFUSED_VOLUME_SHAPE, mirror_read(SHAPED, COUNT, NOTHING, NOTHING, NOTHING, NOTHING));
-    REFUSES(MIRROR_REFUSED_SECTOR_SIZE, mirror_read(KEYED, 24, COUNT, COUNT, IMAGES, NOTHING));
-    REFUSES(MIRROR_REFUSED_KEY_LENGTH, mirror_read(NO_KEY, 24, COUNT, COUNT, IMAGES, NOTHING));
+    REFUSES(MIRROR_REFUSED_OTHER_LENGTH, mirror_read(SHAPED, 1, IMAGES, MAP, NOTHING));
+    REFUSES(MIRROR_REFUSED_SECTOR_NUMBER, mirror_read(SHAPED, COUNT, IMAGES, MAP, NOTHING));
+    REFUSES(MIRROR_REFUSED_MAP_LENGTH, mirror_read(SHAPED, COUNT, IMAGES, NOTHING, NOTHING));
+    REFUSES(MIRROR_REFUSED_MAP_LENGTH, mirror_read(SHAPED, 1, IMAGES, LONGER_MAP, NOTHING));
+    REFUSES(MIRROR_REFUSED_VOLUME_SHAPE, mirror_read(SHAPED, COUNT, NOTHING, NOTHING, NOTHING, NOTHING, NOTHING));
+    REFUSES(MIRROR_REFUSED_SECTOR_SIZE, mirror_read(KEYED, 24, COUNT, COUNT, IMAGES, NOTHING, NOTHING));
+    REFUSES(MIRROR_REFUSED_KEY_LENGTH, mirror_read(NO_KEY, 24, COUNT, COUNT, IMAGES, NOTHING, NOTHING));
     puts("calls: mirror_read");
 }
 
@@ -561,12 +598,12 @@ static void under_another_number(uint64_t number)
 {
     const uint64_t all_lost[MIRROR_COUNTS_LENGTH] = {0, 0, 0, 3, 0};
     const uint32_t all_three[COUNT] = {0, 1, 2};
-    REFUSES(MIRROR_REFUSED_LOST, mirror_read(KEY, number, SIZE, COUNT, 1, IMAGES, OUT));
-    REFUSES(MIRROR_REFUSED_LOST, mirror_mend(KEY, number, SIZE, COUNT, 1, IMAGES));
-    REFUSES(MIRROR_REFUSED_STAGE_ORDER, mirror_first_stage(KEY, number, SIZE, COUNT, 1, PLAIN, IMAGES));
-    REFUSES(MIRROR_REFUSED_STAGE_ORDER, mirror_second_stage(KEY, number, SIZE, COUNT, 1, PLAIN, IMAGES));
-    REFUSES(MIRROR_REFUSED_STAGE_ORDER, mirror_third_stage(KEY, number, SIZE, COUNT, 1, PLAIN, IMAGES));
-    GIVES(MIRROR_DONE, mirror_survey(KEY, number, SIZE, COUNT, IMAGES, LIST, counts));
+    SUSPECTS(1, MIRROR_REFUSED_LOST, mirror_read(KEY, number, SIZE, COUNT, 1, IMAGES, MAP, OUT));
+    SUSPECTS(1, MIRROR_REFUSED_LOST, mirror_mend(KEY, number, SIZE, COUNT, 1, IMAGES, MAP));
+    REFUSES(MIRROR_REFUSED_STAGE_ORDER, mirror_first_stage(KEY, number, SIZE, COUNT, 1, PLAIN, IMAGES, MAP));
+    REFUSES(MIRROR_REFUSED_STAGE_ORDER, mirror_second_stage(KEY, number, SIZE, COUNT, 1, PLAIN, IMAGES, MAP));
+    REFUSES(MIRROR_REFUSED_STAGE_ORDER, mirror_third_stage(KEY, number, SIZE, COUNT, 1, PLAIN, IMAGES, MAP));
+    GIVES(MIRROR_DONE, mirror_survey(KEY, number, SIZE, COUNT, IMAGES, MAP, LIST, counts));
     DUE(count_bytes, all_lost, sizeof all_lost);
     DUE(list_bytes, all_three, sizeof all_three);
     NO_MORE("mirror_survey under another number");
@@ -576,10 +613,10 @@ static void under_another_number(uint64_t number)
 static void mends_damaged(uint8_t *place, uint32_t doubtful)
 {
     place[5] ^= 0x80;
-    GIVES(doubtful, mirror_mend(SHAPED, 1, IMAGES));
+    CLEARS(1, doubtful, mirror_mend(SHAPED, 1, IMAGES, MAP));
     due_part(1);
     NO_MORE("mirror_mend");
-    GIVES(MIRROR_WHOLE, mirror_mend(SHAPED, 1, IMAGES));
+    CLEARS(1, MIRROR_WHOLE, mirror_mend(SHAPED, 1, IMAGES, MAP));
     NO_MORE("mirror_mend of a whole sector");
 }
 
@@ -588,10 +625,12 @@ static void mends(void)
     mends_damaged(locals + SIZE, MIRROR_DOUBTFUL_LOCAL);
     mends_damaged(tags + MIRROR_TAG_BYTES, MIRROR_DOUBTFUL_TAG);
     mends_damaged(remotes + SIZE, MIRROR_DOUBTFUL_REMOTE);
-    REFUSES(MIRROR_REFUSED_SECTOR_NUMBER, mirror_mend(SHAPED, COUNT, IMAGES));
-    REFUSES(MIRROR_REFUSED_VOLUME_SHAPE, mirror_mend(SHAPED, COUNT, NOTHING, NOTHING, NOTHING));
-    REFUSES(MIRROR_REFUSED_SECTOR_SIZE, mirror_mend(KEYED, 8, COUNT, COUNT, IMAGES));
-    REFUSES(MIRROR_REFUSED_KEY_LENGTH, mirror_mend(key, 16, VOLUME, 8, COUNT, COUNT, IMAGES));
+    REFUSES(MIRROR_REFUSED_SECTOR_NUMBER, mirror_mend(SHAPED, COUNT, IMAGES, MAP));
+    REFUSES(MIRROR_REFUSED_MAP_LENGTH, mirror_mend(SHAPED, COUNT, IMAGES, NOTHING));
+    REFUSES(MIRROR_REFUSED_MAP_LENGTH, mirror_mend(SHAPED, 1, IMAGES, LONGER_MAP));
+    REFUSES(MIRROR_REFUSED_VOLUME_SHAPE, mirror_mend(SHAPED, COUNT, NOTHING, NOTHING, NOTHING, NOTHING));
+    REFUSES(MIRROR_REFUSED_SECTOR_SIZE, mirror_mend(KEYED, 8, COUNT, COUNT, IMAGES, NOTHING));
+    REFUSES(MIRROR_REFUSED_KEY_LENGTH, mirror_mend(key, 16, VOLUME, 8, COUNT, COUNT, IMAGES, NOTHING));
     puts("calls: mirror_mend");
 }
 
@@ -603,17 +642,17 @@ static void damage_all(void)
     tags[MIRROR_TAG_BYTES] ^= 1;
     locals[2 * SIZE] ^= 1;
     remotes[3 * SIZE - 1] ^= 1;
-    REFUSES(MIRROR_REFUSED_CLASHING, mirror_read(SHAPED, 0, IMAGES, OUT));
-    REFUSES(MIRROR_REFUSED_CLASHING, mirror_mend(SHAPED, 0, IMAGES));
-    REFUSES(MIRROR_REFUSED_LOST, mirror_read(SHAPED, 2, IMAGES, OUT));
-    REFUSES(MIRROR_REFUSED_LOST, mirror_mend(SHAPED, 2, IMAGES));
+    SUSPECTS(0, MIRROR_REFUSED_CLASHING, mirror_read(SHAPED, 0, IMAGES, MAP, OUT));
+    SUSPECTS(0, MIRROR_REFUSED_CLASHING, mirror_mend(SHAPED, 0, IMAGES, MAP));
+    SUSPECTS(2, MIRROR_REFUSED_LOST, mirror_read(SHAPED, 2, IMAGES, MAP, OUT));
+    SUSPECTS(2, MIRROR_REFUSED_LOST, mirror_mend(SHAPED, 2, IMAGES, MAP));
 }
 
 /* So many entries of the list, from `at` on, are sectors of which a read answers this. Gives the entry behind them. */
 static size_t listed(size_t at, uint64_t count, uint32_t answer, int line)
 {
     for (; count > 0; count--, at++) {
-        answers(answer, mirror_read(SHAPED, list[at], IMAGES, OUT), line, "reading a listed sector");
+        answers(answer, mirror_read(SHAPED, list[at], IMAGES, MAP, OUT), line, "reading a listed sector");
     }
     return at;
 }
@@ -632,18 +671,18 @@ static void surveys(void)
     const uint64_t all_whole[MIRROR_COUNTS_LENGTH] = {3, 0, 0, 0, 1000}, one_whole[MIRROR_COUNTS_LENGTH] = {1, 0, 1, 1, 333};
     const uint64_t none_whole[MIRROR_COUNTS_LENGTH] = {0, 1, 1, 1, 0};
     const uint32_t all_three[COUNT] = {2, 0, 1}, two[2] = {2, 0}; /* lost, clashing, doubtful */
-    GIVES(MIRROR_DONE, mirror_survey(SHAPED, IMAGES, LIST, counts));
+    GIVES(MIRROR_DONE, mirror_survey(SHAPED, IMAGES, MAP, LIST, counts));
     DUE(count_bytes, all_whole, sizeof all_whole);
     NO_MORE("mirror_survey of whole sectors");
     damage_all();
-    GIVES(MIRROR_DONE, mirror_survey(SHAPED, IMAGES, list, ENTRIES, counts));
+    GIVES(MIRROR_DONE, mirror_survey(SHAPED, IMAGES, MAP, list, ENTRIES, counts));
     DUE(count_bytes, none_whole, sizeof none_whole);
     DUE(list_bytes, all_three, sizeof all_three);
     NO_MORE("mirror_survey of damaged sectors");
     kinds_by_counts();
-    answers(MIRROR_DOUBTFUL_TAG, mirror_mend(SHAPED, 1, IMAGES), __LINE__, "mending sector 1");
+    answers(MIRROR_DOUBTFUL_TAG, mirror_mend(SHAPED, 1, IMAGES, MAP), __LINE__, "mending sector 1");
     memset(list, 0x5a, ENTRIES * sizeof(uint32_t));
-    GIVES(MIRROR_DONE, mirror_survey(SHAPED, IMAGES, LIST, counts));
+    GIVES(MIRROR_DONE, mirror_survey(SHAPED, IMAGES, MAP, LIST, counts));
     DUE(count_bytes, one_whole, sizeof one_whole);
     DUE(list_bytes, two, sizeof two);
     NO_MORE("mirror_survey after a mend");
@@ -651,11 +690,13 @@ static void surveys(void)
     check(counts[MIRROR_COUNT_WHOLE] == 1 && counts[MIRROR_COUNT_DOUBTFUL] == 0 && counts[MIRROR_COUNT_CLASHING] == 1 &&
               counts[MIRROR_COUNT_LOST] == 1 && counts[MIRROR_COUNT_HEALTH] == 333,
           __LINE__, "mirror_survey", "the counts stand at other places");
-    REFUSES(MIRROR_REFUSED_LIST_LENGTH, mirror_survey(SHAPED, IMAGES, NOTHING, counts));
-    REFUSES(MIRROR_REFUSED_LIST_LENGTH, mirror_survey(SHAPED, IMAGES, list, COUNT - 1, counts));
-    REFUSES(MIRROR_REFUSED_VOLUME_SHAPE, mirror_survey(SHAPED, NOTHING, NOTHING, NOTHING, NOTHING, counts));
-    REFUSES(MIRROR_REFUSED_SECTOR_SIZE, mirror_survey(KEYED, 33, COUNT, IMAGES, NOTHING, counts));
-    REFUSES(MIRROR_REFUSED_KEY_LENGTH, mirror_survey(NO_KEY, 33, COUNT, IMAGES, NOTHING, counts));
+    REFUSES(MIRROR_REFUSED_LIST_LENGTH, mirror_survey(SHAPED, IMAGES, MAP, NOTHING, counts));
+    REFUSES(MIRROR_REFUSED_LIST_LENGTH, mirror_survey(SHAPED, IMAGES, MAP, list, COUNT - 1, counts));
+    REFUSES(MIRROR_REFUSED_MAP_LENGTH, mirror_survey(SHAPED, IMAGES, NOTHING, NOTHING, counts));
+    REFUSES(MIRROR_REFUSED_MAP_LENGTH, mirror_survey(SHAPED, IMAGES, LONGER_MAP, LIST, counts));
+    REFUSES(MIRROR_REFUSED_VOLUME_SHAPE, mirror_survey(SHAPED, NOTHING, NOTHING, NOTHING, NOTHING, NOTHING, counts));
+    REFUSES(MIRROR_REFUSED_SECTOR_SIZE, mirror_survey(KEYED, 33, COUNT, IMAGES, NOTHING, NOTHING, counts));
+    REFUSES(MIRROR_REFUSED_KEY_LENGTH, mirror_survey(NO_KEY, 33, COUNT, IMAGES, NOTHING, NOTHING, counts));
     puts("calls: mirror_survey");
 }
 
@@ -663,7 +704,7 @@ static void surveys(void)
 
 static void every_answer(void)
 {
-    static const uint8_t ANSWERS[] = {0, 1, 2, 3, 4, 5, 6, 7, 8, 9, 10, 11, 0x81, 0x82, 0x83};
+    static const uint8_t ANSWERS[] = {0, 1, 2, 3, 4, 5, 6, 7, 8, 9, 10, 11, 13, 0x81, 0x82, 0x83};
     size_t i;
     for (i = 0; i < sizeof ANSWERS; i++) {
         char what[32];
@@ -712,8 +753,9 @@ int main(void)
     mends();
     surveys();
     every_answer();
+    maps();
     volumes();
     free_all();
-    printf("calls: %u checks hold, and each of the 15 answers came\n", checks);
+    printf("calls: %u checks hold, and each of the 16 answers came\n", checks);
     return 0;
 }

@@ -22,23 +22,28 @@ static uint8_t plain[MIRROR_SECTOR_BYTES_MAX], local[MIRROR_SECTOR_BYTES_MAX], r
 static uint8_t out[MIRROR_SECTOR_BYTES_MAX];
 static size_t size;
 static uint32_t list[1], side, answer;
-static uint64_t counts[MIRROR_COUNTS_LENGTH];
+static uint64_t counts[MIRROR_COUNTS_LENGTH], map[MIRROR_MAP_WORDS(MIRROR_VOLUME_SECTORS_MAX)], suspects;
 
 /* With the volume's number. */
 #define KEYED key, sizeof key, UINT64_MAX
+/* The map of the one sector that the calls work on, and with its count the largest. */
+#define MAP map, 1
+#define LARGEST_MAP MIRROR_VOLUME_SECTORS_MAX, map, sizeof map / sizeof *map
 
 static void seal(void) { answer = mirror_seal(KEYED, 0, plain, size, local, size, tag, TAG, remote, size); }
 static void judge(void) { answer = mirror_judge(KEYED, 0, local, size, tag, TAG, remote, size, out, size); }
 static void open(void) { answer = mirror_open(KEYED, 0, side, side ? remote : local, size, tag, TAG, out, size); }
 static void rebuild(void) { answer = mirror_rebuild(KEYED, 0, side, side ? remote : local, size, tag, TAG, out, size); }
 static void combine(void) { answer = mirror_combine(local, size, remote, size, out, size); }
-static void blank(void) { answer = mirror_blank(KEYED, size, 1, 0, local, size, tag, TAG, remote, size); }
-static void first(void) { answer = mirror_first_stage(KEYED, size, 1, 0, plain, size, local, size, tag, TAG, remote, size); }
-static void second(void) { answer = mirror_second_stage(KEYED, size, 1, 0, plain, size, local, size, tag, TAG, remote, size); }
-static void third(void) { answer = mirror_third_stage(KEYED, size, 1, 0, plain, size, local, size, tag, TAG, remote, size); }
-static void read(void) { answer = mirror_read(KEYED, size, 1, 0, local, size, tag, TAG, remote, size, out, size); }
-static void mend(void) { answer = mirror_mend(KEYED, size, 1, 0, local, size, tag, TAG, remote, size); }
-static void survey(void) { answer = mirror_survey(KEYED, size, 1, local, size, tag, TAG, remote, size, list, 1, counts); }
+static void blank(void) { answer = mirror_blank(KEYED, size, 1, 0, local, size, tag, TAG, remote, size, MAP); }
+static void first(void) { answer = mirror_first_stage(KEYED, size, 1, 0, plain, size, local, size, tag, TAG, remote, size, MAP); }
+static void second(void) { answer = mirror_second_stage(KEYED, size, 1, 0, plain, size, local, size, tag, TAG, remote, size, MAP); }
+static void third(void) { answer = mirror_third_stage(KEYED, size, 1, 0, plain, size, local, size, tag, TAG, remote, size, MAP); }
+static void read(void) { answer = mirror_read(KEYED, size, 1, 0, local, size, tag, TAG, remote, size, MAP, out, size); }
+static void mend(void) { answer = mirror_mend(KEYED, size, 1, 0, local, size, tag, TAG, remote, size, MAP); }
+static void survey(void) { answer = mirror_survey(KEYED, size, 1, local, size, tag, TAG, remote, size, MAP, list, 1, counts); }
+static void start(void) { answer = mirror_start_map(LARGEST_MAP); }
+static void count(void) { answer = mirror_count_suspects(LARGEST_MAP, &suspects); }
 
 typedef struct {
     const char *name;
@@ -48,7 +53,8 @@ typedef struct {
 
 static Call calls[] = {{"seal", seal, 0},         {"judge", judge, 0},         {"open", open, 0},         {"rebuild", rebuild, 0},
                        {"combine", combine, 0},   {"blank", blank, 0},         {"first_stage", first, 0}, {"second_stage", second, 0},
-                       {"third_stage", third, 0}, {"read", read, 0},           {"mend", mend, 0},         {"survey", survey, 0}};
+                       {"third_stage", third, 0}, {"read", read, 0},           {"mend", mend, 0},         {"survey", survey, 0},
+                       {"start_map", start, 0},   {"count_suspects", count, 0}};
 enum { CALLS = sizeof calls / sizeof calls[0] };
 
 static uint8_t *stack;

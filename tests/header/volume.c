@@ -1,7 +1,8 @@
 /*
  * Each function over struct mirror_volume gives what the call of its name gives: the answer and every lent byte. The two are made on equal
- * buffers, for every state of a sector, with each field of the struct and each further argument right and wrong. What the calls themselves
- * are to give is in calls.c. Each buffer is on the heap with its exact length.
+ * buffers, for every state of a sector, with each field of the struct and each further argument right and wrong. Of each of these calls the
+ * map is looked at too, by the header's table, and that a refusal changes nothing else. What else the calls themselves are to give is in
+ * calls.c. Each buffer is on the heap with its exact length.
  */
 #include "checks.h"
 
@@ -13,15 +14,17 @@ enum { VOLUME = 5, SIZE = 32, COUNT = 3, NUMBER = 1, FEWER = 16 };
 
 /* ---- the buffers: as they are before, as the call leaves them, and as the function over the struct does */
 
-enum { KEY, LOCAL, TAGS, REMOTE, PLAIN, OUT, LIST, COUNTS, BUFFERS };
+enum { KEY, LOCAL, TAGS, REMOTE, MAP, PLAIN, OUT, LIST, COUNTS, SUSPECTS, BUFFERS };
 static const size_t LENGTHS[BUFFERS] = {MIRROR_KEY_BYTES,
                                         COUNT * SIZE,
                                         COUNT * MIRROR_TAG_BYTES,
                                         COUNT * SIZE,
+                                        sizeof(uint64_t),
                                         SIZE,
                                         SIZE,
                                         COUNT * sizeof(uint32_t),
-                                        MIRROR_COUNTS_LENGTH * sizeof(uint64_t)};
+                                        MIRROR_COUNTS_LENGTH * sizeof(uint64_t),
+                                        sizeof(uint64_t)};
 typedef struct {
     uint8_t *at[BUFFERS];
 } Buffers;
@@ -50,22 +53,24 @@ static void copy(const Buffers *from, const Buffers *to)
     }
 }
 
+static uint32_t *list_in(const Buffers *b) { return (uint32_t *)(void *)b->at[LIST]; }
+static uint64_t *words_in(const Buffers *b, int which) { return (uint64_t *)(void *)b->at[which]; }
+
 static struct mirror_volume volume_in(const Buffers *b)
 {
-    struct mirror_volume v = {b->at[KEY],     MIRROR_KEY_BYTES, VOLUME,        SIZE,          COUNT,          b->at[LOCAL],
-                              LENGTHS[LOCAL], b->at[TAGS],      LENGTHS[TAGS], b->at[REMOTE], LENGTHS[REMOTE]};
+    struct mirror_volume v = {b->at[KEY],      MIRROR_KEY_BYTES, VOLUME,      SIZE,          COUNT,
+                              b->at[LOCAL],    LENGTHS[LOCAL],   b->at[TAGS], LENGTHS[TAGS], b->at[REMOTE],
+                              LENGTHS[REMOTE], words_in(b, MAP), 1};
     return v;
 }
 
-static uint32_t *list_in(const Buffers *b) { return (uint32_t *)(void *)b->at[LIST]; }
-static uint64_t *counts_in(const Buffers *b) { return (uint64_t *)(void *)b->at[COUNTS]; }
-
 /* ---- what is called */
 
-enum { BLANK, FIRST, SECOND, THIRD, READ, MEND, SURVEY, CALLS };
-static const char *const NAMES[CALLS] = {"mirror_volume_blank", "mirror_volume_first_stage", "mirror_volume_second_stage",
-                                         "mirror_volume_third_stage", "mirror_volume_read", "mirror_volume_mend",
-                                         "mirror_volume_survey"};
+/* Those before KEYED take the key and the volume's number. */
+enum { BLANK, FIRST, SECOND, THIRD, READ, MEND, SURVEY, KEYED, START = KEYED, COUNT_SUSPECTS, CALLS };
+static const char *const NAMES[CALLS] = {"mirror_volume_blank",       "mirror_volume_first_stage", "mirror_volume_second_stage",
+                                         "mirror_volume_third_stage", "mirror_volume_read",        "mirror_volume_mend",
+                                         "mirror_volume_survey",      "mirror_volume_start_map",   "mirror_volume_count_suspects"};
 
 /* The arguments beside the volume. One of them may be wrong. */
 typedef struct {
@@ -73,10 +78,10 @@ typedef struct {
 } Others;
 
 #define NAMED v.key, v.key_len, v.volume, v.s, v.n
-#define IMAGES v.local, v.local_len, v.tags, v.tags_len, v.remote, v.remote_len
+#define IMAGES v.local, v.local_len, v.tags, v.tags_len, v.remote, v.remote_len, v.map, v.map_len
 #define PLAINTEXT b->at[PLAIN], o->plain_len
 #define OUTPUT b->at[OUT], o->out_len
-#define ENTRIES list_in(b), o->list_len, counts_in(b)
+#define ENTRIES list_in(b), o->list_len, words_in(b, COUNTS)
 
 static uint32_t by_call(int which, struct mirror_volume v, const Others *o, const Buffers *b)
 {
@@ -93,8 +98,12 @@ static uint32_t by_call(int which, struct mirror_volume v, const Others *o, cons
         return mirror_read(NAMED, o->number, IMAGES, OUTPUT);
     case MEND:
         return mirror_mend(NAMED, o->number, IMAGES);
-    default:
+    case SURVEY:
         return mirror_survey(NAMED, IMAGES, ENTRIES);
+    case START:
+        return mirror_start_map(v.n, v.map, v.map_len);
+    default:
+        return mirror_count_suspects(v.n, v.map, v.map_len, words_in(b, SUSPECTS));
     }
 }
 
@@ -113,14 +122,18 @@ static uint32_t by_struct(int which, const struct mirror_volume *v, const Others
         return mirror_volume_read(v, o->number, OUTPUT);
     case MEND:
         return mirror_volume_mend(v, o->number);
-    default:
+    case SURVEY:
         return mirror_volume_survey(v, ENTRIES);
+    case START:
+        return mirror_volume_start_map(v);
+    default:
+        return mirror_volume_count_suspects(v, words_in(b, SUSPECTS));
     }
 }
 
 /* ---- what is wrong: nothing, a field of the struct, or another argument */
 
-enum { NOTHING, KEY_LEN, NO_NUMBER, S, NO_SECTORS, MORE_SECTORS, LOCAL_LEN, TAGS_LEN, REMOTE_LEN, FIELDS };
+enum { NOTHING, KEY_LEN, NO_NUMBER, S, NO_SECTORS, MORE_SECTORS, LOCAL_LEN, TAGS_LEN, REMOTE_LEN, NO_MAP, FIELDS };
 enum { OTHER_NUMBER = 1, PLAIN_LEN, OUT_LEN, LIST_LEN, OTHERS };
 
 static void spoil(struct mirror_volume *v, int field)
@@ -149,6 +162,10 @@ static void spoil(struct mirror_volume *v, int field)
         break;
     case REMOTE_LEN:
         v->remote_len = SIZE;
+        break;
+    case NO_MAP: /* as where a program does not name the fields */
+        v->map = NULL;
+        v->map_len = 0;
         break;
     default:
         break;
@@ -226,10 +243,59 @@ static void make(const Buffers *b, int state)
     hurt(b, state);
 }
 
+/* ---- what a call does to the map */
+
+enum { LEAVES, CLEARS, SETS };
+
+/* To the bit of its sector, by its answer: the header's table. */
+static int mark(int which, uint32_t answer)
+{
+    const int doubtful = answer >= MIRROR_DOUBTFUL_LOCAL && answer <= MIRROR_DOUBTFUL_REMOTE;
+    const int unreadable = answer == MIRROR_REFUSED_LOST || answer == MIRROR_REFUSED_CLASHING;
+    switch (which) {
+    case BLANK:
+    case THIRD:
+        return answer == MIRROR_DONE ? CLEARS : LEAVES;
+    case MEND:
+        return answer == MIRROR_WHOLE || doubtful ? CLEARS : unreadable ? SETS : LEAVES;
+    case FIRST:
+    case SECOND:
+        return answer == MIRROR_DONE ? SETS : LEAVES;
+    case READ:
+        return answer == MIRROR_WHOLE ? CLEARS : doubtful || unreadable ? SETS : LEAVES;
+    default:
+        return LEAVES;
+    }
+}
+
+/* The one word of a map as the call has to leave it. */
+static uint64_t marked(int which, uint32_t answer, size_t n, uint64_t word)
+{
+    const uint64_t bit = (uint64_t)1 << NUMBER;
+    const int does = mark(which, answer);
+    if (which == START && answer == MIRROR_DONE) {
+        return ((uint64_t)1 << n) - 1;
+    }
+    return does == SETS ? word | bit : does == CLEARS ? word & ~bit : word;
+}
+
 /* ---- all of it */
 
 static Buffers before, called, structured;
 static unsigned char met[CALLS][256];
+
+/* What the call has left, against what was there before: the map by the table, and after a refusal all else as it was. */
+static void left(int which, uint32_t answer, size_t n)
+{
+    const int refused = answer >= MIRROR_REFUSED_KEY_LENGTH && answer <= MIRROR_REFUSED_MAP_LENGTH;
+    size_t i;
+    check(*words_in(&called, MAP) == marked(which, answer, n, *words_in(&before, MAP)), __LINE__, NAMES[which],
+          "the call leaves another map than the table says");
+    for (i = 0; i < BUFFERS; i++) {
+        check(!refused || i == MAP || memcmp(called.at[i], before.at[i], LENGTHS[i]) == 0, __LINE__, NAMES[which],
+              "the call is refused and changes more than the map");
+    }
+}
 
 static void compare(int which, int field, int wrong)
 {
@@ -244,6 +310,7 @@ static void compare(int which, int field, int wrong)
     kept = w;
     answer = by_call(which, v, &o, &called);
     met[which][answer & 0xff] = 1;
+    left(which, answer, v.n);
     check(by_struct(which, &w, &o, &structured) == answer, __LINE__, NAMES[which], "answers another number than the call");
     for (i = 0; i < BUFFERS; i++) {
         check(memcmp(called.at[i], structured.at[i], LENGTHS[i]) == 0, __LINE__, NAMES[which], "leaves other bytes than the call");
@@ -251,12 +318,15 @@ static void compare(int which, int field, int wrong)
     check(memcmp(&w, &kept, sizeof w) == 0, __LINE__, NAMES[which], "changes the struct");
 }
 
-/* A call in one state of the sector, with each field and each further argument right and wrong. */
+/* A call in one state of the sector, with each field and each further argument right and wrong, each bit of the map set and clear. */
 static void compare_all(int which)
 {
     int field, wrong;
     for (field = 0; field < FIELDS; field++) {
         for (wrong = 0; wrong < OTHERS; wrong++) {
+            *words_in(&before, MAP) = 0;
+            compare(which, field, wrong);
+            *words_in(&before, MAP) = UINT64_MAX;
             compare(which, field, wrong);
         }
     }
@@ -266,7 +336,7 @@ static void compare_all(int which)
 static const struct {
     int state;
     uint32_t under_0;
-} ACCEPTED[CALLS] = {{WHOLE, MIRROR_DONE},
+} ACCEPTED[KEYED] = {{WHOLE, MIRROR_DONE},
                      {WHOLE, MIRROR_REFUSED_STAGE_ORDER},
                      {FIRST_DONE, MIRROR_REFUSED_STAGE_ORDER},
                      {SECOND_DONE, MIRROR_REFUSED_STAGE_ORDER},
@@ -299,13 +369,15 @@ static void hands_on(int which)
 /* Each function has met all that its call can answer. The lists end with zeros: done, or whole. */
 static void each_answer(void)
 {
-    static const uint8_t ANSWERS[CALLS][11] = {{1, 2, 8, 9},
-                                               {1, 2, 8, 9, 3, 10},
-                                               {1, 2, 8, 9, 3, 10},
-                                               {1, 2, 8, 9, 3, 10},
-                                               {1, 2, 8, 9, 3, 6, 7, 0x81, 0x82, 0x83},
-                                               {1, 2, 8, 9, 6, 7, 0x81, 0x82, 0x83},
-                                               {1, 2, 8, 11}};
+    static const uint8_t ANSWERS[CALLS][12] = {{1, 2, 8, 13, 9},
+                                               {1, 2, 8, 13, 9, 3, 10},
+                                               {1, 2, 8, 13, 9, 3, 10},
+                                               {1, 2, 8, 13, 9, 3, 10},
+                                               {1, 2, 8, 13, 9, 3, 6, 7, 0x81, 0x82, 0x83},
+                                               {1, 2, 8, 13, 9, 6, 7, 0x81, 0x82, 0x83},
+                                               {1, 2, 8, 13, 11},
+                                               {8, 13},
+                                               {8, 13}};
     size_t which, i;
     for (which = 0; which < CALLS; which++) {
         for (i = 0; i < sizeof ANSWERS[which]; i++) {
@@ -327,7 +399,7 @@ void volumes(void)
         }
     }
     each_answer();
-    for (which = 0; which < CALLS; which++) {
+    for (which = 0; which < KEYED; which++) {
         hands_on(which);
     }
     give_back(&before);

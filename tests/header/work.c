@@ -1,6 +1,7 @@
 /*
  * A program for tests/check_work, which counts what the library executes here: makes a volume of 64 sectors of 64 bytes, all of one kind or
- * the kinds by turns, and surveys it so many times. The volume is sealed and then damaged, so that the survey alone judges.
+ * the kinds by turns, and surveys it, or reads or mends each sector, so many times. The volume is sealed and then damaged, so that these
+ * calls alone judge.
  */
 #include "mirror.h"
 
@@ -15,7 +16,7 @@ static const size_t places[KINDS] = {MIRROR_COUNT_WHOLE, MIRROR_COUNT_LOST, MIRR
 
 static uint8_t key[MIRROR_KEY_BYTES], plain[SIZE], local[COUNT * SIZE], tags[COUNT * TAG], remote[COUNT * SIZE];
 static uint32_t list[COUNT];
-static uint64_t counts[MIRROR_COUNTS_LENGTH], due[MIRROR_COUNTS_LENGTH];
+static uint64_t counts[MIRROR_COUNTS_LENGTH], due[MIRROR_COUNTS_LENGTH], map[MIRROR_MAP_WORDS(COUNT)];
 
 static void seal(size_t i)
 {
@@ -55,10 +56,23 @@ static void make(size_t i, const char *kind)
     }
 }
 
+static const struct mirror_volume volume = {.key = key,
+                                            .key_len = sizeof key,
+                                            .volume = VOLUME,
+                                            .s = SIZE,
+                                            .n = COUNT,
+                                            .local = local,
+                                            .local_len = sizeof local,
+                                            .tags = tags,
+                                            .tags_len = sizeof tags,
+                                            .remote = remote,
+                                            .remote_len = sizeof remote,
+                                            .map = map,
+                                            .map_len = MIRROR_MAP_WORDS(COUNT)};
+
 static void survey(void)
 {
-    const uint32_t answer = mirror_survey(key, sizeof key, VOLUME, SIZE, COUNT, local, sizeof local, tags, sizeof tags, remote,
-                                          sizeof remote, list, COUNT, counts);
+    const uint32_t answer = mirror_volume_survey(&volume, list, COUNT, counts);
     if (answer != MIRROR_DONE || memcmp(counts, due, sizeof due) != 0) {
         fprintf(stderr, "work: the survey answers %x (hexadecimal), or gives other counts than the volume was made with\n",
                 (unsigned)answer);
@@ -66,18 +80,38 @@ static void survey(void)
     }
 }
 
-/* work KIND SURVEYS */
-int main(int argc, char **argv)
+/* Each sector, from a started map on. Suspect afterwards are those that a read does not find whole, or that a mend cannot mend. */
+static void read_or_mend(int mends)
 {
-    size_t kind = 0, i;
-    unsigned long surveys;
-    while (argc == 3 && kind <= KINDS && strcmp(argv[1], kinds[kind]) != 0) {
-        kind++;
+    const uint64_t unreadable = due[MIRROR_COUNT_LOST] + due[MIRROR_COUNT_CLASHING];
+    const uint64_t left = mends ? unreadable : unreadable + due[MIRROR_COUNT_DOUBTFUL];
+    uint64_t whole = 0, suspects = 0;
+    int done = mirror_volume_start_map(&volume) == MIRROR_DONE;
+    size_t i;
+    for (i = 0; i < COUNT; i++) {
+        const uint32_t answer = mends ? mirror_volume_mend(&volume, i) : mirror_volume_read(&volume, i, plain, SIZE);
+        whole += answer == MIRROR_WHOLE;
     }
-    if (argc != 3 || kind > KINDS) {
-        fprintf(stderr, "usage: work KIND SURVEYS, where KIND is whole, lost, clashing, doubtful or mixed\n");
-        return 2;
+    done = done && mirror_volume_count_suspects(&volume, &suspects) == MIRROR_DONE;
+    if (!done || whole != due[MIRROR_COUNT_WHOLE] || suspects != left) {
+        fprintf(stderr, "work: %lu sectors are found whole, and %lu are suspect then: the volume was made otherwise\n",
+                (unsigned long)whole, (unsigned long)suspects);
+        exit(1);
     }
+}
+
+static void read_all(void) { read_or_mend(0); }
+static void mend_all(void) { read_or_mend(1); }
+
+static const struct {
+    const char *name;
+    void (*run)(void);
+} calls[] = {{"survey", survey}, {"read", read_all}, {"mend", mend_all}};
+enum { CALLS = sizeof calls / sizeof calls[0] };
+
+static void make_volume(size_t kind)
+{
+    size_t i;
     memset(key, 0x31, sizeof key);
     for (i = 0; i < COUNT; i++) {
         const size_t own = kind == KINDS ? i % KINDS : kind;
@@ -85,8 +119,26 @@ int main(int argc, char **argv)
         due[places[own]]++;
     }
     due[MIRROR_COUNT_HEALTH] = due[MIRROR_COUNT_WHOLE] * 1000 / COUNT;
-    for (surveys = strtoul(argv[2], NULL, 10); surveys > 0; surveys--) {
-        survey();
+}
+
+/* work KIND CALL TIMES */
+int main(int argc, char **argv)
+{
+    size_t kind = 0, call = 0;
+    unsigned long times;
+    while (argc == 4 && kind <= KINDS && strcmp(argv[1], kinds[kind]) != 0) {
+        kind++;
+    }
+    while (argc == 4 && call < CALLS && strcmp(argv[2], calls[call].name) != 0) {
+        call++;
+    }
+    if (argc != 4 || kind > KINDS || call == CALLS) {
+        fprintf(stderr, "usage: work KIND CALL TIMES; KIND is whole, lost, clashing, doubtful or mixed, CALL is survey, read or mend\n");
+        return 2;
+    }
+    make_volume(kind);
+    for (times = strtoul(argv[3], NULL, 10); times > 0; times--) {
+        calls[call].run();
     }
     return 0;
 }

@@ -94,15 +94,20 @@ impl Case {
     }
 
     /// Makes each call by all implementations and ends the program unless the
-    /// answers and all lent bytes are the same.
+    /// answers and all lent bytes are the same, but for the map of one that marks
+    /// nothing in it.
     pub fn insist_on_agreement(&self, start: &Volume) {
         let mut volumes = [(); ALL.len()].map(|()| start.clone());
         for number in 0..self.calls(start) {
             for (implementation, volume) in ALL.iter().zip(&mut volumes) {
                 self.run(implementation, volume, number);
             }
-            for (implementation, volume) in ALL.iter().zip(&volumes).skip(1) {
-                if *volume != volumes[0] {
+            let [due, others @ ..] = &mut volumes;
+            for (implementation, volume) in ALL[1..].iter().zip(others) {
+                if !implementation.marks {
+                    volume.map.copy_from_slice(&due.map);
+                }
+                if volume != due {
                     let (by, size) = (implementation.name, start.size);
                     panic!("{} at {size} bytes: {by} leaves other bytes", self.title);
                 }

@@ -18,6 +18,8 @@ pub enum Call {
 pub struct Implementation {
     pub name: &'static str,
     pub run: fn(Call, &mut Volume, usize) -> u32,
+    /// Whether its calls on a volume take the map and mark their sector's bit.
+    pub marks: bool,
 }
 
 /// The proved library first, the other two behind it.
@@ -25,22 +27,30 @@ pub const ALL: [Implementation; 3] = [
     Implementation {
         name: "library",
         run: library,
+        marks: true,
     },
     Implementation {
         name: "rust",
         run: rust,
+        marks: true,
     },
-    Implementation { name: "c", run: c },
+    Implementation {
+        name: "c",
+        run: c,
+        marks: false,
+    },
 ];
 
-/// Defines a function that makes the calls of a module.
+/// Defines a function that makes the calls of a module. Where the map has a name,
+/// the calls on a volume take it behind the images.
 macro_rules! calls_of {
-    ($name:ident, $module:path) => {
+    ($name:ident, $module:path $(, $map:ident)?) => {
         fn $name(call: Call, v: &mut Volume, number: usize) -> u32 {
             use $module as calls;
             let (volume, s, n) = (v.number, v.size, v.count);
             let (side, tag) = (part(number, s), part(number, 16));
             let (key, local, tags, remote) = (&v.key, &mut v.local, &mut v.tags, &mut v.remote);
+            $(let $map = &mut v.map;)?
             let out = &mut v.out;
             match call {
                 Call::Seal => {
@@ -52,18 +62,20 @@ macro_rules! calls_of {
                     let (local, remote) = (&local[side.clone()], &remote[side]);
                     calls::judge(key, volume, number as u64, local, &tags[tag], remote, out)
                 }
-                Call::Read => calls::read(key, volume, s, n, number, local, tags, remote, out),
-                Call::Mend => calls::mend(key, volume, s, n, number, local, tags, remote),
+                Call::Read => {
+                    calls::read(key, volume, s, n, number, local, tags, remote, $($map,)? out)
+                }
+                Call::Mend => calls::mend(key, volume, s, n, number, local, tags, remote $(, $map)?),
                 Call::Survey => {
                     let (list, counts) = (&mut v.list, &mut v.counts);
-                    calls::survey(key, volume, s, n, local, tags, remote, list, counts)
+                    calls::survey(key, volume, s, n, local, tags, remote, $($map,)? list, counts)
                 }
             }
         }
     };
 }
-calls_of!(library, linked);
-calls_of!(rust, self::rust_calls);
+calls_of!(library, linked, map);
+calls_of!(rust, self::rust_calls, map);
 calls_of!(c, crate::plain);
 
 /// The independent implementation's calls with the parameters of `linked`.
@@ -107,9 +119,10 @@ mod rust_calls {
         local: &[u8],
         tags: &[u8],
         remote: &[u8],
+        map: &mut [u64],
         out: &mut [u8],
     ) -> u32 {
-        let answer = of_reference::read(key, volume, s, n, local, tags, remote, number, out);
+        let answer = of_reference::read(key, volume, s, n, local, tags, remote, map, number, out);
         u32::from(answer_number(&answer))
     }
 
@@ -122,8 +135,9 @@ mod rust_calls {
         local: &mut [u8],
         tags: &mut [u8],
         remote: &mut [u8],
+        map: &mut [u64],
     ) -> u32 {
-        let answer = of_reference::mend(key, volume, s, n, local, tags, remote, number);
+        let answer = of_reference::mend(key, volume, s, n, local, tags, remote, map, number);
         u32::from(answer_number(&answer))
     }
 
@@ -135,10 +149,11 @@ mod rust_calls {
         local: &[u8],
         tags: &[u8],
         remote: &[u8],
+        map: &[u64],
         list: &mut [u32],
         counts: &mut [u64; 5],
     ) -> u32 {
-        match of_reference::survey(key, volume, s, n, local, tags, remote, list) {
+        match of_reference::survey(key, volume, s, n, local, tags, remote, map, list) {
             Ok(found) => {
                 *counts = found.numbers();
                 0

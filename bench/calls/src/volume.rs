@@ -3,6 +3,7 @@
 use reference::answer::Place;
 use reference::collide::blind_pair;
 use reference::field::{to_block, to_blocks, to_bytes};
+use reference::map::words;
 use reference::rng::Rng;
 use reference::seal::{sealed, Sealed};
 use reference::volume::part;
@@ -10,6 +11,10 @@ use reference::volume::part;
 /// What stands in outputs before a call, so that a call that must not write
 /// one is seen if it does.
 const FILL: u8 = 0x5a;
+
+/// A word of the map before a call: of two neighbours one is suspect, so that a
+/// bit that is set and one that is cleared both show.
+const SUSPECTS: u64 = 0x5555_5555_5555_5555;
 
 /// The volume's number. Its bytes differ, so that all sides must agree on their
 /// order.
@@ -40,6 +45,7 @@ pub struct Volume {
     pub local: Vec<u8>,
     pub tags: Vec<u8>,
     pub remote: Vec<u8>,
+    pub map: Vec<u64>,
     pub out: Vec<u8>,
     pub list: Vec<u32>,
     pub counts: [u64; 5],
@@ -62,6 +68,7 @@ impl Volume {
             local: vec![0; count * size],
             tags: vec![0; count * 16],
             remote: vec![0; count * size],
+            map: vec![SUSPECTS; words(count)],
             out: vec![FILL; size],
             list: vec![u32::MAX; count],
             counts: [u64::MAX; 5],
@@ -101,6 +108,7 @@ impl Volume {
         self.local.copy_from_slice(&from.local);
         self.tags.copy_from_slice(&from.tags);
         self.remote.copy_from_slice(&from.remote);
+        self.map.copy_from_slice(&from.map);
         self.out.copy_from_slice(&from.out);
         self.list.copy_from_slice(&from.list);
         self.counts = from.counts;

@@ -1,13 +1,15 @@
 -- A volume's read and blank are the judging and the sealing of a sector. Assumes nothing.
 use mathlib.Core.Path.{_≡_, refl, sym, ap, _∙_}
+use mathlib.Core.Bool.{false}
 use mathlib.Core.List.{List, [], _∷_}
 use mathlib.Core.Option.{none}
 use Prim.Native.Nat.{ℕ}
 use lib.ListN.{length, replicate, length-replicate}
 use Rattle.block.proofs.Parts.{length-part}
+use Rattle.bits.specs.Bits.{mark}
 use Rattle.mode.specs.Sealing.{Triple, Key, sealed}
 use Rattle.mode.specs.Scheme.{Place, local, tag, remote, on, wide, isSize, dcm, scheme}
-use Rattle.answers.specs.Rules.{firstOf, Args, args}
+use Rattle.answers.specs.Rules.{firstOf, Args, args, mapWords}
 use Rattle.answers.proofs.Passing.{length-due, parts-pass}
 use Rattle.answers.proofs.Shapes.{shape-facts}
 use Rattle.verdict.specs.Verdict.{fits, fitsTwo, candidate, grade, judge}
@@ -16,6 +18,8 @@ use Rattle.sector.proofs.Public.{judge-passes, seal-passes}
 use Rattle.history.specs.Volume.{sectorOf, writeAll, Call, blank, read, early, mirror, outcome, readOutcome}
 use Rattle.history.proofs.Outcomes.{outcome-late, read-late}
 use Rattle.history.proofs.Refusals.{Passed, passed}
+use Rattle.suspects.specs.Marks.{isFinished, marks, marked, mapOutcome, mapReadOutcome}
+use Rattle.suspects.proofs.Calls.{map-calls}
 use Rattle.mirror.specs.Sectors.{AsSectors}
 
 module _ (v : Triple) (k : Key) (volume s n i : ℕ) where
@@ -62,5 +66,20 @@ module _ (v : Triple) (k : Key) (volume s n i : ℕ) where
       refl refl in
       outcome-late mirror v a blank e ∙ ap (λ (r : ℕ × Triple). (0, with-sector (r .1))) (sym z)
 
+  -- ---- with a map of as many words as n needs
+
+  module _ (m : List ℕ) (right : length m ≡ mapWords n) where
+    map-reads : (out : List ℕ) → firstOf (early v a (read (length out))) ≡ none → let r = mapReadOutcome mirror v a out m in (r .0, r .1 .0) ≡ judgeCall k volume i t out
+    map-reads out e = ap (λ (r : ℕ × (List ℕ × List ℕ)). (r .0, r .1 .0)) (map-calls .read-as-without v a out m right) ∙ reads out e
+
+    map-blanks : firstOf (early v a blank) ≡ none → mapOutcome mirror v a blank m ≡ (0, (with-sector (sealCall k volume i zeros t .1), mark i false m))
+    unfolding isFinished
+    map-blanks e =
+        map-calls .as-without v a blank m right
+        ∙ ap (λ (r : ℕ × Triple). (r .0, (r .1, marked (marks blank (r .0)) i m))) (blanks e)
+
 pub as-sectors : AsSectors
-as-sectors = record { reads = reads; blanks = blanks }
+as-sectors = record {
+  reads = λ v k volume s n i out m e right. map-reads v k volume s n i m right out e;
+  blanks = λ v k volume s n i m e right. map-blanks v k volume s n i m right e;
+}

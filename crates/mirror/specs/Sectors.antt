@@ -1,20 +1,23 @@
 -- Two calls on a volume are those on a sector, under the volume's key and number and at the sector's number (document 01, "A volume"): a
 -- read is the judging of the sector's places, and a blank writes what sealing zeros gives. On the definitions that the contracts cite, of
--- calls that pass the checks; proved as `as-sectors`.
+-- calls that pass the checks, with a map of as many words as n needs; proved as `as-sectors`.
 use mathlib.Core.Path.{_≡_}
+use mathlib.Core.Bool.{false}
 use mathlib.Core.List.{List, [], _∷_}
 use mathlib.Core.Option.{none}
 use Prim.Native.Nat.{ℕ}
 use lib.ListN.{length, replicate}
+use Rattle.bits.specs.Bits.{mark}
 use Rattle.mode.specs.Sealing.{Triple, Key}
 use Rattle.mode.specs.Scheme.{local, tag, remote, on}
-use Rattle.answers.specs.Rules.{firstOf, args}
+use Rattle.answers.specs.Rules.{firstOf, args, mapWords}
 use Rattle.sector.specs.Calls.{sealCall, judgeCall}
-use Rattle.history.specs.Volume.{sectorOf, writeAll, blank, read, early, mirror, outcome, readOutcome}
+use Rattle.history.specs.Volume.{sectorOf, writeAll, blank, read, early, mirror}
+use Rattle.suspects.specs.Marks.{mapOutcome, mapReadOutcome}
 
 pub record AsSectors : Type 0 where
-  pub reads : (v : Triple) (k : Key) (volume s n i : ℕ) (out : List ℕ) → firstOf (early v (args k volume s n i) (read (length out))) ≡ none
-      → readOutcome mirror v (args k volume s n i) out ≡ judgeCall k volume i (sectorOf s i v) out
-  pub blanks : (v : Triple) (k : Key) (volume s n i : ℕ) → firstOf (early v (args k volume s n i) blank) ≡ none
-      → outcome mirror v (args k volume s n i) blank
-      ≡ (0, writeAll s i (on (sealCall k volume i (replicate s 0) (sectorOf s i v) .1)) (local ∷ tag ∷ remote ∷ []) v)
+  pub reads : (v : Triple) (k : Key) (volume s n i : ℕ) (out m : List ℕ) → firstOf (early v (args k volume s n i) (read (length out))) ≡ none → length m ≡ mapWords n
+      → let r = mapReadOutcome mirror v (args k volume s n i) out m in (r .0, r .1 .0) ≡ judgeCall k volume i (sectorOf s i v) out
+  pub blanks : (v : Triple) (k : Key) (volume s n i : ℕ) (m : List ℕ) → firstOf (early v (args k volume s n i) blank) ≡ none → length m ≡ mapWords n
+      → mapOutcome mirror v (args k volume s n i) blank m
+      ≡ (0, (writeAll s i (on (sealCall k volume i (replicate s 0) (sectorOf s i v) .1)) (local ∷ tag ∷ remote ∷ []) v, mark i false m))

@@ -9,18 +9,19 @@ ghost use Rattle.mode.specs.Sealing.{keyFrom, triple};
 ghost use Rattle.answers.specs.Answers.{doneNumber, judgedNumber};
 ghost use Rattle.answers.specs.Rules.{args, volumeOf};
 ghost use Rattle.sector.specs.Calls.{sealCall, judgeCall, openCall, rebuildCall, combineCall};
-ghost use Rattle.history.specs.Volume.{mirror, outcome, readOutcome};
+ghost use Rattle.history.specs.Volume.{mirror};
 ghost use Rattle.history.specs.Volume as W;
-ghost use Rattle.report.specs.Survey.{surveyOutcome};
+ghost use Rattle.map.specs.Map.{startOutcome, countOutcome};
+ghost use Rattle.suspects.specs.Marks.{mapOutcome, mapReadOutcome, mapSurveyOutcome};
 ghost use Rattle.mirror.specs.Survey.{numbers, surveyResult};
 ghost use Rattle.mirror.specs.Version.{release};
 
-// The release that the library is of, 0.4.0, so that a program can tell whether it is the one that the program was compiled for.
+// The release that the library is of, 0.5.0, so that a program can tell whether it is the one that the program was compiled for.
 #[no_mangle]
 pub extern "C" fn mirror_version() -> u32
-    ensures { λ r. ⌜ r ≡ release 0 4 0 ⌝ }
+    ensures { λ r. ⌜ r ≡ release 0 5 0 ⌝ }
 {
-    4000
+    5000
 }
 
 fn done_number(d: Done) -> u32
@@ -112,10 +113,11 @@ pub extern "C" fn mirror_blank(
     local: &mut [u8],
     tags: &mut [u8],
     remote: &mut [u8],
+    map: &mut [u64],
 ) -> u32
-    ensures { λ r. ⌜ outcome mirror (triple (now (local .entry)) (now (tags .entry)) (now (remote .entry))) (args (keyFrom (now (key .entry))) volume s n number) W.blank ≡ (r, triple (now (local .exit)) (now (tags .exit)) (now (remote .exit))) ⌝ }
+    ensures { λ r. ⌜ mapOutcome mirror (triple (now (local .entry)) (now (tags .entry)) (now (remote .entry))) (args (keyFrom (now (key .entry))) volume s n number) W.blank (now (map .entry)) ≡ (r, (triple (now (local .exit)) (now (tags .exit)) (now (remote .exit)), now (map .exit))) ⌝ }
 {
-    done_number(volume::blank(key, volume, s, n, number, local, tags, remote))
+    done_number(mapped::blank(key, volume, s, n, number, local, tags, remote, map))
 }
 
 #[no_mangle]
@@ -129,10 +131,11 @@ pub extern "C" fn mirror_first_stage(
     local: &mut [u8],
     tags: &[u8],
     remote: &[u8],
+    map: &mut [u64],
 ) -> u32
-    ensures { λ r. ⌜ outcome mirror (triple (now (local .entry)) (now (tags .entry)) (now (remote .entry))) (args (keyFrom (now (key .entry))) volume s n number) (W.first (now (plain .entry))) ≡ (r, triple (now (local .exit)) (now (tags .entry)) (now (remote .entry))) ⌝ }
+    ensures { λ r. ⌜ mapOutcome mirror (triple (now (local .entry)) (now (tags .entry)) (now (remote .entry))) (args (keyFrom (now (key .entry))) volume s n number) (W.first (now (plain .entry))) (now (map .entry)) ≡ (r, (triple (now (local .exit)) (now (tags .entry)) (now (remote .entry)), now (map .exit))) ⌝ }
 {
-    done_number(volume::first_stage(key, volume, s, n, number, plain, local, tags, remote))
+    done_number(mapped::first_stage(key, volume, s, n, number, plain, local, tags, remote, map))
 }
 
 #[no_mangle]
@@ -146,10 +149,11 @@ pub extern "C" fn mirror_second_stage(
     local: &[u8],
     tags: &mut [u8],
     remote: &[u8],
+    map: &mut [u64],
 ) -> u32
-    ensures { λ r. ⌜ outcome mirror (triple (now (local .entry)) (now (tags .entry)) (now (remote .entry))) (args (keyFrom (now (key .entry))) volume s n number) (W.second (now (plain .entry))) ≡ (r, triple (now (local .entry)) (now (tags .exit)) (now (remote .entry))) ⌝ }
+    ensures { λ r. ⌜ mapOutcome mirror (triple (now (local .entry)) (now (tags .entry)) (now (remote .entry))) (args (keyFrom (now (key .entry))) volume s n number) (W.second (now (plain .entry))) (now (map .entry)) ≡ (r, (triple (now (local .entry)) (now (tags .exit)) (now (remote .entry)), now (map .exit))) ⌝ }
 {
-    done_number(volume::second_stage(key, volume, s, n, number, plain, local, tags, remote))
+    done_number(mapped::second_stage(key, volume, s, n, number, plain, local, tags, remote, map))
 }
 
 #[no_mangle]
@@ -163,10 +167,11 @@ pub extern "C" fn mirror_third_stage(
     local: &[u8],
     tags: &[u8],
     remote: &mut [u8],
+    map: &mut [u64],
 ) -> u32
-    ensures { λ r. ⌜ outcome mirror (triple (now (local .entry)) (now (tags .entry)) (now (remote .entry))) (args (keyFrom (now (key .entry))) volume s n number) (W.third (now (plain .entry))) ≡ (r, triple (now (local .entry)) (now (tags .entry)) (now (remote .exit))) ⌝ }
+    ensures { λ r. ⌜ mapOutcome mirror (triple (now (local .entry)) (now (tags .entry)) (now (remote .entry))) (args (keyFrom (now (key .entry))) volume s n number) (W.third (now (plain .entry))) (now (map .entry)) ≡ (r, (triple (now (local .entry)) (now (tags .entry)) (now (remote .exit)), now (map .exit))) ⌝ }
 {
-    done_number(volume::third_stage(key, volume, s, n, number, plain, local, tags, remote))
+    done_number(mapped::third_stage(key, volume, s, n, number, plain, local, tags, remote, map))
 }
 
 #[no_mangle]
@@ -179,11 +184,12 @@ pub extern "C" fn mirror_read(
     local: &[u8],
     tags: &[u8],
     remote: &[u8],
+    map: &mut [u64],
     out: &mut [u8],
 ) -> u32
-    ensures { λ r. ⌜ readOutcome mirror (triple (now (local .entry)) (now (tags .entry)) (now (remote .entry))) (args (keyFrom (now (key .entry))) volume s n number) (now (out .entry)) ≡ (r, now (out .exit)) ⌝ }
+    ensures { λ r. ⌜ mapReadOutcome mirror (triple (now (local .entry)) (now (tags .entry)) (now (remote .entry))) (args (keyFrom (now (key .entry))) volume s n number) (now (out .entry)) (now (map .entry)) ≡ (r, (now (out .exit), now (map .exit))) ⌝ }
 {
-    judged_number(volume::read(key, volume, s, n, number, local, tags, remote, out))
+    judged_number(mapped::read(key, volume, s, n, number, local, tags, remote, map, out))
 }
 
 #[no_mangle]
@@ -196,10 +202,11 @@ pub extern "C" fn mirror_mend(
     local: &mut [u8],
     tags: &mut [u8],
     remote: &mut [u8],
+    map: &mut [u64],
 ) -> u32
-    ensures { λ r. ⌜ outcome mirror (triple (now (local .entry)) (now (tags .entry)) (now (remote .entry))) (args (keyFrom (now (key .entry))) volume s n number) W.mend ≡ (r, triple (now (local .exit)) (now (tags .exit)) (now (remote .exit))) ⌝ }
+    ensures { λ r. ⌜ mapOutcome mirror (triple (now (local .entry)) (now (tags .entry)) (now (remote .entry))) (args (keyFrom (now (key .entry))) volume s n number) W.mend (now (map .entry)) ≡ (r, (triple (now (local .exit)) (now (tags .exit)) (now (remote .exit)), now (map .exit))) ⌝ }
 {
-    judged_number(volume::mend(key, volume, s, n, number, local, tags, remote))
+    judged_number(mapped::mend(key, volume, s, n, number, local, tags, remote, map))
 }
 
 fn count_numbers(c: Counts) -> [u64; 5]
@@ -224,12 +231,13 @@ pub extern "C" fn mirror_survey(
     local: &[u8],
     tags: &[u8],
     remote: &[u8],
+    map: &[u64],
     list: &mut [u32],
     counts: &mut [u64; 5],
 ) -> u32
-    ensures { λ r. ⌜ surveyResult (surveyOutcome (triple (now (local .entry)) (now (tags .entry)) (now (remote .entry))) (volumeOf (keyFrom (now (key .entry))) volume s n) (now (list .entry))) (now (counts .entry)) ≡ (r, (now (counts .exit), now (list .exit))) ⌝ }
+    ensures { λ r. ⌜ surveyResult (mapSurveyOutcome (triple (now (local .entry)) (now (tags .entry)) (now (remote .entry))) (volumeOf (keyFrom (now (key .entry))) volume s n) (now (map .entry)) (now (list .entry))) (now (counts .entry)) ≡ (r, (now (counts .exit), now (list .exit))) ⌝ }
 {
-    let surveyed = survey::survey(key, volume, s, n, local, tags, remote, list);
+    let surveyed = mapped::survey(key, volume, s, n, local, tags, remote, map, list);
     match surveyed {
         Surveyed::Counted(c) => {
             *counts = count_numbers(c);
@@ -237,4 +245,20 @@ pub extern "C" fn mirror_survey(
         }
         Surveyed::Refused(f) => answers::refusal_number(f) as u32,
     }
+}
+
+// Sets the bits of all n sectors, and clears those past n.
+#[no_mangle]
+pub extern "C" fn mirror_start_map(n: usize, map: &mut [u64]) -> u32
+    ensures { λ r. ⌜ startOutcome n (now (map .entry)) ≡ (r, now (map .exit)) ⌝ }
+{
+    done_number(map::start(n, map))
+}
+
+// `count` is given the number of suspects among n sectors.
+#[no_mangle]
+pub extern "C" fn mirror_count_suspects(n: usize, map: &[u64], count: &mut u64) -> u32
+    ensures { λ r. ⌜ countOutcome n (now (map .entry)) (now (count .entry)) ≡ (r, now (count .exit)) ⌝ }
+{
+    done_number(map::count_suspects(n, map, count))
 }

@@ -1,4 +1,4 @@
-//! A sealed sector and a volume, on which tests make calls.
+//! A sealed sector, and what a volume of a test is like.
 
 use mirror::{seal, TAG_BYTES};
 

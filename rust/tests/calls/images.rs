@@ -1,14 +1,16 @@
-//! What a volume is made of: images that are owned, lent to be read only, or of
-//! any type that gives its bytes, and a sector's parts of them.
+//! What a volume is made of: images and a map that are owned, lent to be read
+//! only, or of any type that gives what it holds, and a sector's parts of them.
 
 use crate::common::{bytes, key, sealed, Triple, COUNT, SIZE, VOLUME};
 use mirror::{Place, Refusal, Survey, Verdict, Volume, TAG_BYTES};
 use std::cell::Cell;
 
-/// A volume that owns its images, all sectors blanked.
-fn blanked(key: &[u8]) -> Volume<'_, Vec<u8>> {
+/// A volume that owns its images and its map, all sectors blanked. The bits past
+/// the count are set.
+fn blanked(key: &[u8]) -> Volume<'_, Vec<u8>, Vec<u64>> {
     let (local, tags) = (vec![1; COUNT * SIZE], vec![2; COUNT * TAG_BYTES]);
-    let mut volume = Volume::new(key, VOLUME, SIZE, COUNT, local, tags, vec![3; COUNT * SIZE]);
+    let (remote, map) = (vec![3; COUNT * SIZE], vec![u64::MAX]);
+    let mut volume = Volume::new(key, VOLUME, SIZE, COUNT, local, tags, remote, map);
     for number in 0..COUNT {
         assert_eq!(volume.blank(number), Ok(()));
     }
@@ -28,6 +30,10 @@ fn owned_images_are_given_back() {
     assert_eq!(local, volume.local());
     assert_eq!(tags, volume.tags());
     assert_eq!(remote, volume.remote());
+    let images_and_map = volume.clone().into_images_and_map();
+    let due = (local.clone(), tags.clone(), remote.clone(), vec![!0b111]);
+    assert_eq!(images_and_map, due);
+    assert_eq!(volume.map(), [!0b111]);
 
     let due = sealed(1, &plaintext);
     assert_eq!(local[SIZE..2 * SIZE], due.local);
@@ -55,7 +61,9 @@ fn images_can_be_written_between_calls() {
 fn images_that_are_only_read() {
     let (key, plaintext) = (key(), bytes(2));
     let Triple { local, tag, remote } = sealed(0, &plaintext);
-    let volume = Volume::new(&key, VOLUME, SIZE, 1, &local[..], &tag[..], &remote[..]);
+    let (local, tag, remote) = (&local[..], &tag[..], &remote[..]);
+    let map = &mut [1][..];
+    let mut volume = Volume::new(&key, VOLUME, SIZE, 1, local, tag, remote, map);
     let mut output = [0; SIZE];
     assert_eq!(volume.read(0, &mut output), Ok(Verdict::Whole));
     assert_eq!(output[..], plaintext);
@@ -67,49 +75,93 @@ fn images_that_are_only_read() {
         health: 1000,
     };
     assert_eq!(volume.survey(&mut [9]), Ok((due, &[][..])));
+    assert_eq!(volume.map(), [0]);
 
-    let short = Volume::new(&key, VOLUME, SIZE, 1, &local[..], &tag[1..], &remote[..]);
+    let mut short = Volume::new(&key, VOLUME, SIZE, 1, local, &tag[1..], remote, [1]);
     let refused = Err(Refusal::VolumeShape);
     assert_eq!(short.read(0, &mut output), refused);
     assert_eq!(short.survey(&mut [9]).map(|_| Verdict::Whole), refused);
     assert_eq!(output[..], plaintext);
 }
 
-/// Bytes of which it is known how often they were asked for.
-struct Counted<'c> {
-    bytes: Vec<u8>,
+/// It is enough to survey and to look at.
+#[test]
+fn a_map_that_is_only_read() {
+    let key = key();
+    let (local, tags, remote) = blanked(&key).into_images();
+    let map = [0b101];
+    let volume = Volume::new(&key, VOLUME, SIZE, COUNT, local, tags, remote, &map[..]);
+    let (survey, _) = volume.survey(&mut [9; COUNT]).expect("accepted");
+    assert_eq!(survey.whole, COUNT);
+    assert_eq!(volume.count_suspects(), Ok(2));
+    let suspects = [0, 1, 2].map(|number| volume.is_suspect(number));
+    assert_eq!(suspects, [Some(true), Some(false), Some(true)]);
+    assert_eq!(volume.map(), [0b101]);
+}
+
+/// A read writes the map, so each thread has a volume with one of its own, over
+/// images that all of them are lent.
+#[test]
+fn reads_in_two_threads() {
+    let key = key();
+    let mut volume = blanked(&key);
+    volume.local_mut()[SIZE] ^= 1;
+    let (local, tags, remote) = volume.into_images();
+    let suspects = || {
+        let map = [0];
+        let mut reader = Volume::new(&key, VOLUME, SIZE, COUNT, &local, &tags, &remote, map);
+        reader.start_map()?;
+        for number in 0..COUNT {
+            reader.read(number, &mut [0; SIZE])?;
+        }
+        Ok::<_, Refusal>(reader.map()[0])
+    };
+    std::thread::scope(|scope| {
+        let threads = [(); 2].map(|()| scope.spawn(suspects));
+        for thread in threads {
+            assert_eq!(thread.join().expect("a thread ends"), Ok(0b10));
+        }
+    });
+}
+
+/// Bytes or words of which it is known how often they were asked for.
+struct Counted<'c, T> {
+    held: Vec<T>,
     asked: &'c Cell<usize>,
 }
 
-impl AsRef<[u8]> for Counted<'_> {
-    fn as_ref(&self) -> &[u8] {
+impl<T> AsRef<[T]> for Counted<'_, T> {
+    fn as_ref(&self) -> &[T] {
         self.asked.set(self.asked.get() + 1);
-        &self.bytes
+        &self.held
     }
 }
 
-impl AsMut<[u8]> for Counted<'_> {
-    fn as_mut(&mut self) -> &mut [u8] {
+impl<T> AsMut<[T]> for Counted<'_, T> {
+    fn as_mut(&mut self) -> &mut [T] {
         self.asked.set(self.asked.get() + 1);
-        &mut self.bytes
+        &mut self.held
     }
 }
 
-/// A type may give other bytes when it is asked again, so a pointer and its
+/// A type may give something else when it is asked again, so a pointer and its
 /// length have to be of one answer.
 #[test]
-fn a_call_asks_each_image_for_its_bytes_once() {
+fn a_call_asks_for_each_image_and_for_the_map_once() {
     let (key, plaintext) = (key(), bytes(3));
-    let counts = [(); 3].map(|()| Cell::new(0));
-    let (local, tags, remote) = blanked(&key).into_images();
+    let counts = [(); 4].map(|()| Cell::new(0));
+    let (local, tags, remote, map) = blanked(&key).into_images_and_map();
     let [local, tags, remote] = [
         (local, &counts[0]),
         (tags, &counts[1]),
         (remote, &counts[2]),
     ]
-    .map(|(bytes, asked)| Counted { bytes, asked });
-    let mut volume = Volume::new(&key, VOLUME, SIZE, COUNT, local, tags, remote);
-    let once = || assert_eq!(counts.each_ref().map(Cell::take), [1; 3]);
+    .map(|(held, asked)| Counted { held, asked });
+    let (held, asked) = (map, &counts[3]);
+    let map = Counted { held, asked };
+    let mut volume = Volume::new(&key, VOLUME, SIZE, COUNT, local, tags, remote, map);
+    let asked = || counts.each_ref().map(Cell::take);
+    let once = || assert_eq!(asked(), [1; 4]);
 
     assert_eq!(volume.blank(2), Ok(()));
     once();
@@ -125,6 +177,10 @@ fn a_call_asks_each_image_for_its_bytes_once() {
     once();
     assert!(volume.survey(&mut [0; COUNT]).is_ok());
     once();
+    assert_eq!(volume.count_suspects(), Ok(0));
+    assert_eq!(asked(), [0, 0, 0, 1]);
+    assert_eq!(volume.start_map(), Ok(()));
+    assert_eq!(asked(), [0, 0, 0, 1]);
 }
 
 #[test]
@@ -143,7 +199,7 @@ fn parts_are_those_of_the_sector() {
 }
 
 /// The three parts' lengths.
-fn parts<I: AsRef<[u8]>>(volume: &Volume<I>, number: usize) -> [Option<usize>; 3] {
+fn parts<I: AsRef<[u8]>, M>(volume: &Volume<I, M>, number: usize) -> [Option<usize>; 3] {
     let parts = [
         volume.local_part(number),
         volume.tag_part(number),
@@ -155,7 +211,8 @@ fn parts<I: AsRef<[u8]>>(volume: &Volume<I>, number: usize) -> [Option<usize>; 3
 #[test]
 fn images_of_another_shape_have_no_such_part() {
     let (side, tags) = ([0; 2 * SIZE], [0; 2 * TAG_BYTES]);
-    let of_shape = |size, count| Volume::new(&[], 0, size, count, &side[..], &tags[..], &side[1..]);
+    let (local, tags, remote) = (&side[..], &tags[..], &side[1..]);
+    let of_shape = |size, count| Volume::new(&[], 0, size, count, local, tags, remote, ());
     let (sector, tag) = (Some(SIZE), Some(TAG_BYTES));
     assert_eq!(parts(&of_shape(SIZE, 2), 0), [sector, tag, sector]);
     // The remote image is a byte too short for sector 1.

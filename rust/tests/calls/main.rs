@@ -4,6 +4,7 @@ mod common;
 #[path = "../../examples/mend.rs"]
 mod example;
 mod images;
+mod map;
 mod numbers;
 mod sector;
 mod volume;

@@ -1,6 +1,6 @@
 //! Numbers and texts of the answers, the numbers of the release and of sizes,
 //! and what only the unsafe functions can show: an unknown side, null pointers,
-//! and counts after a refusal.
+//! and a survey's counts and the number of suspects after a refusal.
 
 use crate::common::{bytes, key, sealed, Triple, SIZE, VOLUME};
 use mirror::{ffi, Place, Refusal, Side, Verdict};
@@ -8,16 +8,16 @@ use std::collections::HashSet;
 use std::ptr::{null, null_mut};
 
 #[test]
-fn refusals_have_the_numbers_1_to_11() {
+fn refusals_have_the_numbers_1_to_11_and_13() {
     let numbers: Vec<u32> = Refusal::ALL
         .iter()
         .map(|refusal| refusal.number())
         .collect();
-    assert_eq!(numbers, (1..=11).collect::<Vec<u32>>());
+    assert_eq!(numbers, (1..=11).chain([13]).collect::<Vec<u32>>());
     for &refusal in Refusal::ALL {
         assert_eq!(Refusal::from_number(refusal.number()), Some(refusal));
     }
-    for number in [0, 12, 0x81, u32::MAX] {
+    for number in [0, 12, 14, 0x81, u32::MAX] {
         assert_eq!(Refusal::from_number(number), None);
     }
 }
@@ -58,7 +58,7 @@ fn each_refusal_says_what_is_wrong_and_what_to_do() {
         assert!(!wrong.is_empty() && !what_to_do.is_empty(), "{text}");
         assert!(!text.contains("  "), "{text}");
     }
-    assert_eq!(texts.iter().collect::<HashSet<_>>().len(), 11);
+    assert_eq!(texts.iter().collect::<HashSet<_>>().len(), 12);
     let error: Box<dyn std::error::Error> = Box::new(Refusal::Lost);
     assert!(error.to_string().starts_with("lost"));
 }
@@ -105,7 +105,7 @@ fn an_unknown_side_is_refused() {
 fn a_refused_survey_leaves_the_counts() {
     let key = key();
     let Triple { local, tag, remote } = sealed(0, &bytes(2));
-    let mut counts = [77; 5];
+    let (map, mut counts) = ([1], [77; 5]);
     // SAFETY: pointers and lengths are those of separate buffers; the list is
     // null and has no entries.
     let answer = unsafe {
@@ -121,6 +121,8 @@ fn a_refused_survey_leaves_the_counts() {
             tag.len(),
             remote.as_ptr(),
             remote.len(),
+            map.as_ptr(),
+            map.len(),
             null_mut(),
             0,
             &mut counts,
@@ -131,8 +133,31 @@ fn a_refused_survey_leaves_the_counts() {
 }
 
 #[test]
+fn a_refused_count_leaves_the_number() {
+    let map = [u64::MAX; 2];
+    let refused = [
+        (0, Refusal::VolumeShape),
+        (1, Refusal::MapLength),
+        (129, Refusal::MapLength),
+        (65_537, Refusal::VolumeShape),
+    ];
+    for (n, due) in refused {
+        let mut count = 77;
+        // SAFETY: pointer and length are those of one buffer, and the number is
+        // another.
+        let answer = unsafe { ffi::mirror_count_suspects(n, map.as_ptr(), map.len(), &mut count) };
+        assert_eq!((answer, count), (due.number(), 77));
+    }
+}
+
+#[test]
 fn null_with_no_length_is_refused_like_any_empty_buffer() {
     // SAFETY: every pointer is null and every length 0.
     let answer = unsafe { ffi::mirror_combine(null(), 0, null(), 0, null_mut(), 0) };
     assert_eq!(answer, Refusal::SectorSize.number());
+    for (n, due) in [(0, Refusal::VolumeShape), (1, Refusal::MapLength)] {
+        // SAFETY: the pointer is null and the length 0.
+        let answer = unsafe { ffi::mirror_start_map(n, null_mut(), 0) };
+        assert_eq!(answer, due.number());
+    }
 }

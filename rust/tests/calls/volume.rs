@@ -4,24 +4,28 @@ use crate::common::{bytes, clashing, key, sealed, Triple, COUNT, SIZE, VOLUME};
 use mirror::{ByKind, Place, Refusal, Side, Survey, Verdict, Volume};
 use mirror::{TAG_BYTES, VOLUME_SECTORS_MAX};
 
-/// A volume whose images are lent.
-type Lent<'a> = Volume<'a, &'a mut [u8]>;
+/// A volume whose images and map are lent.
+type Lent<'a> = Volume<'a, &'a mut [u8], &'a mut [u64]>;
 
-/// The three images.
+/// The three images, and the map beside them.
 #[derive(Clone, Debug, PartialEq)]
 struct Images {
     local: Vec<u8>,
     tags: Vec<u8>,
     remote: Vec<u8>,
+    map: Vec<u64>,
 }
 
 impl Images {
+    /// All sectors blanked, and none suspect.
     fn blanked() -> Images {
         let mut images = Images {
             local: vec![1; SIZE * COUNT],
             tags: vec![2; TAG_BYTES * COUNT],
             remote: vec![3; SIZE * COUNT],
+            map: vec![0],
         };
+        assert_eq!(images.volume(&key()).start_map(), Ok(()));
         for number in 0..COUNT {
             assert_eq!(images.volume(&key()).blank(number), Ok(()));
         }
@@ -38,8 +42,9 @@ impl Images {
             local,
             tags,
             remote,
+            map,
         } = self;
-        Volume::new(key, VOLUME, size, count, local, tags, remote)
+        Volume::new(key, VOLUME, size, count, local, tags, remote, map)
     }
 
     fn put(&mut self, number: usize, triple: &Triple) {
@@ -55,6 +60,7 @@ fn blank_seals_zeros() {
         local: vec![0; SIZE * COUNT],
         tags: vec![0; TAG_BYTES * COUNT],
         remote: vec![0; SIZE * COUNT],
+        map: vec![0],
     };
     for number in 0..COUNT {
         due.put(number, &sealed(number as u64, &[0; SIZE]));
@@ -153,21 +159,24 @@ fn a_first_stage_cut_into_a_clash_is_undone_by_rebuilding() {
 }
 
 /// Under another number than its own a volume is lost, and a call that needs what
-/// is there changes nothing.
+/// is there changes no image.
 #[test]
 fn a_volume_under_another_number() {
     let (key, plaintext) = (key(), bytes(4));
     let mut images = Images::blanked();
     images.put(1, &sealed(1, &plaintext));
-    let before = images.clone();
+    let mut due = images.clone();
+    due.map = vec![0b10];
     let Images {
         local,
         tags,
         remote,
+        map,
     } = &mut images;
     for number in [0, VOLUME ^ 1, u64::MAX] {
         let (local, tags, remote) = (&mut local[..], &mut tags[..], &mut remote[..]);
-        let mut volume = Volume::new(&key, number, SIZE, COUNT, local, tags, remote);
+        let map = &mut map[..];
+        let mut volume = Volume::new(&key, number, SIZE, COUNT, local, tags, remote, map);
         assert_eq!(volume.number(), number);
         let mut output = [0xee; SIZE];
         assert_eq!(volume.read(1, &mut output), Err(Refusal::Lost));
@@ -181,7 +190,7 @@ fn a_volume_under_another_number() {
         let (survey, listed) = volume.survey(&mut list).expect("accepted");
         assert_eq!((survey.lost, listed), (COUNT, &[0, 1, 2][..]));
     }
-    assert_eq!(images, before);
+    assert_eq!(images, due);
 }
 
 /// Why a caller must rule these out: a stored tag that is a mixture of the old
@@ -232,15 +241,19 @@ fn damaged() -> Images {
 }
 
 #[test]
-fn lost_and_clashing_change_nothing() {
+fn lost_and_clashing_change_one_bit() {
     let key = key();
     for (number, refusal) in [(0, Refusal::Clashing), (2, Refusal::Lost)] {
-        let mut images = damaged();
-        let mut volume = images.volume(&key);
+        let mut due = damaged();
+        due.map = vec![1 << number];
+        let mut read = damaged();
         let mut output = [0xee; SIZE];
-        assert_eq!(volume.read(number, &mut output), Err(refusal));
-        assert_eq!(volume.mend(number), Err(refusal));
-        assert_eq!((images, output), (damaged(), [0xee; SIZE]));
+        let answer = read.volume(&key).read(number, &mut output);
+        assert_eq!((answer, &read), (Err(refusal), &due));
+        assert_eq!(output, [0xee; SIZE]);
+        let mut mended = damaged();
+        let answer = mended.volume(&key).mend(number);
+        assert_eq!((answer, &mended), (Err(refusal), &due));
     }
 }
 
@@ -282,7 +295,7 @@ fn surveys() {
 fn a_survey_by_kind() {
     let key = key();
     let mut images = damaged();
-    let volume = images.volume(&key);
+    let mut volume = images.volume(&key);
     let mut list = [9; COUNT];
     let (survey, listed) = volume.survey(&mut list).expect("accepted");
     let ByKind {
@@ -291,7 +304,7 @@ fn a_survey_by_kind() {
         doubtful,
     } = survey.by_kind(listed);
     assert_eq!((lost, clashing, doubtful), (&[2][..], &[0][..], &[1][..]));
-    let read = |numbers: &[u32]| volume.read(numbers[0] as usize, &mut [0; SIZE]);
+    let mut read = |numbers: &[u32]| volume.read(numbers[0] as usize, &mut [0; SIZE]);
     assert_eq!(read(lost), Err(Refusal::Lost));
     assert_eq!(read(clashing), Err(Refusal::Clashing));
     assert_eq!(read(doubtful), Ok(Verdict::Doubtful(Place::Remote)));
@@ -359,6 +372,23 @@ fn refusals(volume: &mut Lent, number: usize) -> [Option<Refusal>; 7] {
     ]
 }
 
+/// Every call is refused for its shape, its size and its key, in this order,
+/// whatever else is wrong.
+fn insist_on_first_refusals(images: &mut Images) {
+    let key = key();
+    let due = [Some(Refusal::VolumeShape); 7];
+    for count in [0, COUNT + 1, VOLUME_SECTORS_MAX + 1] {
+        let volume = &mut images.of_shape(&key, SIZE, count);
+        assert_eq!(refusals(volume, usize::MAX), due);
+    }
+    let volume = &mut images.of_shape(&key, 15, VOLUME_SECTORS_MAX + 1);
+    let due = [Some(Refusal::SectorSize); 7];
+    assert_eq!(refusals(volume, usize::MAX), due);
+    let volume = &mut images.of_shape(&key[1..], 15, VOLUME_SECTORS_MAX + 1);
+    let due = [Some(Refusal::KeyLength); 7];
+    assert_eq!(refusals(volume, usize::MAX), due);
+}
+
 #[test]
 fn refusals_in_order() {
     let key = key();
@@ -368,21 +398,31 @@ fn refusals_in_order() {
     assert_eq!(survey, Some(Refusal::ListLength));
 
     // From here on every call is refused.
-    let before = images.clone();
-    let [others @ .., _] = refusals(&mut images.volume(&key), COUNT);
-    assert_eq!(others, [Some(Refusal::SectorNumber); 6]);
-    for count in [0, COUNT + 1, VOLUME_SECTORS_MAX + 1] {
-        let volume = &mut images.of_shape(&key, SIZE, count);
-        let due = [Some(Refusal::VolumeShape); 7];
-        assert_eq!(refusals(volume, usize::MAX), due);
+    for map in [0, u64::MAX] {
+        images.map = vec![map];
+        let before = images.clone();
+        let [others @ .., _] = refusals(&mut images.volume(&key), COUNT);
+        assert_eq!(others, [Some(Refusal::SectorNumber); 6]);
+        insist_on_first_refusals(&mut images);
+        assert_eq!(images, before);
     }
-    let volume = &mut images.of_shape(&key, 15, VOLUME_SECTORS_MAX + 1);
-    let due = [Some(Refusal::SectorSize); 7];
-    assert_eq!(refusals(volume, usize::MAX), due);
-    let volume = &mut images.of_shape(&key[1..], 15, VOLUME_SECTORS_MAX + 1);
-    let due = [Some(Refusal::KeyLength); 7];
-    assert_eq!(refusals(volume, usize::MAX), due);
-    assert_eq!(images, before);
+}
+
+/// A word too few or too many, behind the shape and before all else.
+#[test]
+fn a_map_of_another_length_is_refused_in_order() {
+    let key = key();
+    for map in [vec![], vec![0; 2], vec![u64::MAX; 2]] {
+        let mut images = damaged();
+        images.map = map;
+        let before = images.clone();
+        for number in [0, COUNT] {
+            let due = [Some(Refusal::MapLength); 7];
+            assert_eq!(refusals(&mut images.volume(&key), number), due);
+        }
+        insist_on_first_refusals(&mut images);
+        assert_eq!(images, before);
+    }
 }
 
 #[test]
@@ -410,6 +450,7 @@ fn each_image_has_its_length() {
             local,
             tags,
             remote,
+            ..
         } = &mut images;
         [local, tags, remote][image].pop();
         let refused = images.volume(&key).blank(0);

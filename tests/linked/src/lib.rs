@@ -23,6 +23,7 @@ fn refusal_number(refusal: Refusal) -> u32 {
         Refusal::SectorNumber => 9,
         Refusal::StageOrder => 10,
         Refusal::ListLength => 11,
+        Refusal::MapLength => 13,
         _ => panic!("{refusal:?} has no number here"),
     }
 }
@@ -157,8 +158,9 @@ pub fn blank(
     local: &mut [u8],
     tags: &mut [u8],
     remote: &mut [u8],
+    map: &mut [u64],
 ) -> u32 {
-    done(Volume::new(key, volume, s, n, local, tags, remote).blank(number))
+    done(Volume::new(key, volume, s, n, local, tags, remote, map).blank(number))
 }
 
 pub fn first_stage(
@@ -171,8 +173,9 @@ pub fn first_stage(
     local: &mut [u8],
     tags: &mut [u8],
     remote: &mut [u8],
+    map: &mut [u64],
 ) -> u32 {
-    done(Volume::new(key, volume, s, n, local, tags, remote).first_stage(number, plain))
+    done(Volume::new(key, volume, s, n, local, tags, remote, map).first_stage(number, plain))
 }
 
 pub fn second_stage(
@@ -185,8 +188,9 @@ pub fn second_stage(
     local: &mut [u8],
     tags: &mut [u8],
     remote: &mut [u8],
+    map: &mut [u64],
 ) -> u32 {
-    done(Volume::new(key, volume, s, n, local, tags, remote).second_stage(number, plain))
+    done(Volume::new(key, volume, s, n, local, tags, remote, map).second_stage(number, plain))
 }
 
 pub fn third_stage(
@@ -199,8 +203,9 @@ pub fn third_stage(
     local: &mut [u8],
     tags: &mut [u8],
     remote: &mut [u8],
+    map: &mut [u64],
 ) -> u32 {
-    done(Volume::new(key, volume, s, n, local, tags, remote).third_stage(number, plain))
+    done(Volume::new(key, volume, s, n, local, tags, remote, map).third_stage(number, plain))
 }
 
 pub fn read(
@@ -212,9 +217,10 @@ pub fn read(
     local: &[u8],
     tags: &[u8],
     remote: &[u8],
+    map: &mut [u64],
     out: &mut [u8],
 ) -> u32 {
-    judged(Volume::new(key, volume, s, n, local, tags, remote).read(number, out))
+    judged(Volume::new(key, volume, s, n, local, tags, remote, map).read(number, out))
 }
 
 pub fn mend(
@@ -226,12 +232,14 @@ pub fn mend(
     local: &mut [u8],
     tags: &mut [u8],
     remote: &mut [u8],
+    map: &mut [u64],
 ) -> u32 {
-    judged(Volume::new(key, volume, s, n, local, tags, remote).mend(number))
+    judged(Volume::new(key, volume, s, n, local, tags, remote, map).mend(number))
 }
 
 /// The counts are whole, doubtful, clashing, lost and the health. The numbers
-/// that the wrapper gives must be the front of the list.
+/// that the wrapper gives must be the front of the list. The map is lent as
+/// writable, so that a write to it is seen.
 pub fn survey(
     key: &[u8],
     volume: u64,
@@ -240,11 +248,12 @@ pub fn survey(
     local: &[u8],
     tags: &[u8],
     remote: &[u8],
+    map: &mut [u64],
     list: &mut [u32],
     counts: &mut [u64; 5],
 ) -> u32 {
     let start = list.as_ptr();
-    match Volume::new(key, volume, s, n, local, tags, remote).survey(list) {
+    match Volume::new(key, volume, s, n, local, tags, remote, map).survey(list) {
         Ok((found, listed)) => {
             assert_eq!((listed.as_ptr(), listed.len()), (start, n - found.whole));
             let found = [
@@ -271,6 +280,7 @@ pub fn survey_without_wrapper(
     local: &[u8],
     tags: &[u8],
     remote: &[u8],
+    map: &mut [u64],
     list: &mut [u32],
     counts: &mut [u64; 5],
 ) -> u32 {
@@ -290,9 +300,45 @@ pub fn survey_without_wrapper(
             tags.len(),
             remote.as_ptr(),
             remote.len(),
+            map.as_mut_ptr(),
+            map.len(),
             list.as_mut_ptr(),
             list.len(),
             counts,
         )
     }
+}
+
+/// A volume of nothing but a count and a map.
+fn of_map(n: usize, map: &mut [u64]) -> Volume<'_, &[u8], &mut [u64]> {
+    Volume::new(&[], 0, 0, n, &[], &[], &[], map)
+}
+
+pub fn start_map(n: usize, map: &mut [u64]) -> u32 {
+    done(mirror::start_map(n, map))
+}
+
+pub fn start_map_of_volume(n: usize, map: &mut [u64]) -> u32 {
+    done(of_map(n, map).start_map())
+}
+
+/// Where it is done, the wrapper's number goes to the caller's.
+fn counted(found: Result<u64, Refusal>, count: &mut u64) -> u32 {
+    done(found.map(|suspects| *count = suspects))
+}
+
+pub fn count_suspects(n: usize, map: &mut [u64], count: &mut u64) -> u32 {
+    counted(mirror::count_suspects(n, map), count)
+}
+
+pub fn count_suspects_of_volume(n: usize, map: &mut [u64], count: &mut u64) -> u32 {
+    counted(of_map(n, map).count_suspects(), count)
+}
+
+/// The count without the wrapper, which has a number of its own: what a refused
+/// call leaves in the caller's shows only here.
+pub fn count_suspects_without_wrapper(n: usize, map: &mut [u64], count: &mut u64) -> u32 {
+    // SAFETY: pointer and length are those of one slice; it and the count live
+    // through the call.
+    unsafe { ffi::mirror_count_suspects(n, map.as_mut_ptr(), map.len(), count) }
 }

@@ -1,9 +1,10 @@
 //! Random histories of volumes through the compiled library, each under one key
 //! and one number. After every event the plain machine says what each sector must
-//! give.
+//! give, and the log of the calls what the map must be.
 
 use linked::both::Both;
-use reference::history::{insist_on_variety, run_histories};
+use reference::history::{insist_on_marks, insist_on_variety, insist_on_words};
+use reference::history::{run_histories, Tally};
 
 /// As many seeds come to every kind of number.
 const SEEDS: u64 = 18;
@@ -22,6 +23,7 @@ fn histories_through_the_library() {
     let large = [(512, 3), (4096, 2)];
     let tally = run_histories(&Both, 0..seeds(), &small, 700);
     insist_on_variety(&tally);
+    insist_on_marks(&tally);
     for number in ["number 0", "number 1", "largest number", "any number"] {
         let histories = tally.get(&format!("history under {number}"));
         assert!(histories > 0 || seeds() < SEEDS, "{number}");
@@ -32,4 +34,22 @@ fn histories_through_the_library() {
     }
     let events = tally.get("events") + of_large.get("events");
     println!("{events} events agree, from {} seeds", seeds());
+    print_clear("few sectors", &tally);
+}
+
+/// How often the second claim about the map had something to say.
+fn print_clear(what: &str, tally: &Tally) {
+    let steps = tally.get("seen clear that has to be whole");
+    let sectors = tally.get("clear and whole");
+    println!("{what}: {sectors} sectors were clear and had to be whole, after {steps} calls");
+}
+
+/// Volumes whose map has more words than one.
+#[test]
+fn histories_of_many_sectors_through_the_library() {
+    let seeds = 2000..2000 + seeds().min(3);
+    let tally = run_histories(&Both, seeds, &[(16, 65), (16, 130)], 250);
+    insist_on_words(&tally);
+    println!("{} events on many sectors agree", tally.get("events"));
+    print_clear("many sectors", &tally);
 }

@@ -1,13 +1,14 @@
-//! The refusals of all twelve calls through the compiled library, each compared
+//! The refusals of all fourteen calls through the compiled library, each compared
 //! with the independent implementation. To the right arguments of a call comes
 //! every fault alone and every pair of faults, which tests the order too.
 
 mod common;
 
-use common::{rounds, Arguments, Call, Tally, FILL};
+use common::{random_words, rounds, Arguments, Call, Tally, FILL};
 use reference::answer::Place;
 use reference::collide::blind_pair;
 use reference::field::{to_block, to_blocks, to_bytes};
+use reference::map::words;
 use reference::rng::Rng;
 use reference::seal::{sealed, Sealed};
 use reference::volume::part;
@@ -34,6 +35,7 @@ enum Parameter {
     Local,
     Tag,
     Remote,
+    Map,
     Out,
     List,
 }
@@ -45,14 +47,15 @@ type Fault = (Parameter, usize);
 
 /// What can be wrong with every call on a volume.
 const OF_VOLUME: &[Parameter] = &[
-    Contents, SizeOfAll, CountOfAll, Key, Volume, Size, Count, Local, Tag, Remote,
+    Contents, SizeOfAll, CountOfAll, Key, Volume, Size, Count, Local, Tag, Remote, Map,
 ];
 
 /// Sizes about the bounds, and lengths for lent parts.
 const SIZES: [usize; 11] = [0, 1, 15, 16, 17, 31, 4080, 4095, 4096, 4097, 4112];
 
-/// The sector sizes and numbers of sectors of the right arguments.
-const SHAPES: [(usize, usize); 7] = [
+/// The sector sizes and numbers of sectors of the right arguments. The last has a
+/// map of two words.
+const SHAPES: [(usize, usize); 8] = [
     (32, 3),
     (16, 1),
     (16, 4),
@@ -60,21 +63,24 @@ const SHAPES: [(usize, usize); 7] = [
     (64, 16),
     (512, 1),
     (4096, 2),
+    (16, 65),
 ];
 
-const CALLS: [(Call, &[u32]); 12] = [
+const CALLS: [(Call, &[u32]); 14] = [
     (Call::Seal, &[0, 1, 2, 3]),
     (Call::Judge, &[0, 0x81, 0x82, 0x83, 1, 2, 3, 6, 7]),
     (Call::Open, &[0, 1, 2, 3, 4, 5]),
     (Call::Rebuild, &[0, 1, 2, 3, 4, 5]),
     (Call::Combine, &[0, 2, 3]),
-    (Call::Blank, &[0, 1, 2, 8, 9]),
-    (Call::First, &[0, 1, 2, 8, 9, 3, 10]),
-    (Call::Second, &[0, 1, 2, 8, 9, 3, 10]),
-    (Call::Third, &[0, 1, 2, 8, 9, 3, 10]),
-    (Call::Read, &[0, 0x81, 0x82, 0x83, 1, 2, 8, 9, 3, 6, 7]),
-    (Call::Mend, &[0, 0x81, 0x82, 0x83, 1, 2, 8, 9, 6, 7]),
-    (Call::Survey, &[0, 1, 2, 8, 11]),
+    (Call::Blank, &[0, 1, 2, 8, 13, 9]),
+    (Call::First, &[0, 1, 2, 8, 13, 9, 3, 10]),
+    (Call::Second, &[0, 1, 2, 8, 13, 9, 3, 10]),
+    (Call::Third, &[0, 1, 2, 8, 13, 9, 3, 10]),
+    (Call::Read, &[0, 0x81, 0x82, 0x83, 1, 2, 8, 13, 9, 3, 6, 7]),
+    (Call::Mend, &[0, 0x81, 0x82, 0x83, 1, 2, 8, 13, 9, 6, 7]),
+    (Call::Survey, &[0, 1, 2, 8, 13, 11]),
+    (Call::Start, &[0, 8, 13]),
+    (Call::Count, &[0, 8, 13]),
 ];
 
 /// What a call takes that can be wrong. The order is that of the changes.
@@ -91,6 +97,7 @@ fn parameters(call: Call) -> Vec<Parameter> {
         Call::First | Call::Second | Call::Third => of_volume(&[Number, Plain]),
         Call::Read => of_volume(&[Number, Out]),
         Call::Survey => of_volume(&[List]),
+        Call::Start | Call::Count => vec![CountOfAll, Count, Map],
     }
 }
 
@@ -119,6 +126,8 @@ fn values(parameter: Parameter, right: &Arguments) -> Vec<usize> {
         Local | Remote if n == 1 => sizes_about(s),
         Local | Remote => [vec![0, 16 * n], about(n * s, s)].concat(),
         Tag => [vec![0, 15, 17, 32, n * s], about(16 * n, 16)].concat(),
+        // The last two would be right if the map were counted in bytes or bits.
+        Map => vec![0, words(n) - 1, words(n) + 1, 1024, 8 * words(n), n],
         List => vec![0, n - 1, n + 1, 2 * n],
     }
 }
@@ -169,6 +178,7 @@ fn apply(arguments: &mut Arguments, (parameter, value): Fault) {
         Local => arguments.local.resize(value, FILL),
         Tag => arguments.tag.resize(value, FILL),
         Remote => arguments.remote.resize(value, FILL),
+        Map => arguments.map.resize(value, u64::from(FILL)),
         Out => arguments.out.resize(value, FILL),
         List => arguments.list.resize(value, u32::from(FILL)),
     }
@@ -183,6 +193,7 @@ fn follow(arguments: &mut Arguments) {
     arguments.local.resize(n * s, FILL);
     arguments.tag.resize(n * 16, FILL);
     arguments.remote.resize(n * s, FILL);
+    arguments.map.resize(words(n), u64::from(FILL));
     arguments.list.resize(n, u32::from(FILL));
 }
 
@@ -252,6 +263,7 @@ fn right(rng: &mut Rng, call: Call, s: usize, n: usize) -> Arguments {
         local: rng.bytes(n * s),
         tag: rng.bytes(n * 16),
         remote: rng.bytes(n * s),
+        map: random_words(rng, words(n)),
         out: vec![FILL; s],
         list: vec![u32::from(FILL); n],
         ..Arguments::none()
@@ -282,19 +294,32 @@ fn found_by(call: Call, arguments: &Arguments, old: Sealed) -> Option<Sealed> {
     }
 }
 
-/// A call with right arguments, with every fault and with every two.
+/// A call with right arguments, with every fault and with every two. Every other
+/// one comes with the bits of the map turned over, so that each mark shows.
 fn try_faults(tally: &mut Tally, call: Call, right: &Arguments) {
-    assert_eq!(tally.make(call, right).0, 0, "{call:?}");
-    let faults = faults(call, right);
+    let mut right = right.clone();
+    for _ in 0..2 {
+        assert_eq!(tally.make(call, &right).0, 0, "{call:?}");
+        turn_over(&mut right);
+    }
+    let faults = faults(call, &right);
     for (index, &first) in faults.iter().enumerate() {
+        turn_over(&mut right);
         let mut with_one = right.clone();
         apply(&mut with_one, first);
         tally.make(call, &with_one);
         for &second in faults[index..].iter().filter(|fault| fault.0 != first.0) {
+            turn_over(&mut with_one);
             let mut with_two = with_one.clone();
             apply(&mut with_two, second);
             tally.make(call, &with_two);
         }
+    }
+}
+
+fn turn_over(arguments: &mut Arguments) {
+    for word in &mut arguments.map {
+        *word = !*word;
     }
 }
 
@@ -316,7 +341,61 @@ fn refusals_through_the_library() {
 }
 
 /// The answers that are about lengths and numbers, and not about what is there.
-const OF_ARGUMENTS: [u32; 7] = [1, 2, 3, 4, 8, 9, 11];
+const OF_ARGUMENTS: [u32; 8] = [1, 2, 3, 4, 8, 9, 11, 13];
+
+/// What comes with a map of another length, and which of the two is refused.
+const BESIDE_MAP: [(Fault, u32); 16] = [
+    ((Key, 31), 1),
+    ((SizeOfAll, 15), 2),
+    ((Size, 4112), 2),
+    ((Count, 0), 8),
+    ((Count, 65_537), 8),
+    ((Count, usize::MAX), 8),
+    ((Local, 31), 8),
+    ((Tag, 15), 8),
+    ((Remote, 33), 8),
+    ((Contents, 0), 13),
+    ((Contents, 3), 13),
+    ((Number, 65), 13),
+    ((Plain, 31), 13),
+    ((Out, 33), 13),
+    ((List, 0), 13),
+    ((List, 2), 13),
+];
+
+/// The refusal 13 stands behind 8, and before 9, 3, 11 and what the sector holds.
+#[test]
+fn a_map_of_another_length_in_its_order() {
+    let mut rng = Rng::new(500);
+    for (call, answers) in CALLS {
+        for n in [3, 63, 64, 65] {
+            let right = right(&mut rng, call, 32, n);
+            for length in [0, words(n) - 1, words(n) + 1] {
+                if !answers.contains(&13) {
+                    continue;
+                }
+                let mut wrong = right.clone();
+                apply(&mut wrong, (Map, length));
+                insist_on_refusal(call, &wrong, 13);
+                for (fault, due) in BESIDE_MAP {
+                    if parameters(call).contains(&fault.0) {
+                        let mut with_two = right.clone();
+                        apply(&mut with_two, fault);
+                        apply(&mut with_two, (Map, length));
+                        insist_on_refusal(call, &with_two, due);
+                    }
+                }
+            }
+        }
+    }
+}
+
+/// The call is refused by both, and changes nothing.
+fn insist_on_refusal(call: Call, given: &Arguments, due: u32) {
+    let (number, left) = call.by_both(given);
+    assert_eq!(number, due, "{call:?}");
+    assert!(left == *given, "{call:?} is refused, and changes a byte");
+}
 
 /// What is refused under one volume's number is refused under every one.
 #[test]

@@ -4,14 +4,16 @@
 
 mod common;
 
-use common::{any_volume, rounds};
+use common::{any_volume, random_words, rounds};
 use linked::both::Both;
 use reference::answer::{Place, Refusal};
 use reference::collide::blind_pair;
 use reference::field::{to_block, to_blocks, to_bytes};
 use reference::history::{Calls, Given, Images};
+use reference::map::words;
 use reference::rng::Rng;
 use reference::seal::{sealed, Sealed};
+use reference::volume::Survey;
 
 fn volume(rng: &mut Rng, size: usize, count: usize) -> (Given, Images) {
     let given = Given {
@@ -28,17 +30,26 @@ fn volume(rng: &mut Rng, size: usize, count: usize) -> (Given, Images) {
     (given, images)
 }
 
+/// A survey with so much room in the list, of a map of as many words as needed.
+fn survey(given: &Given, images: &Images, room: usize) -> Result<Survey, Refusal> {
+    let map = vec![7; words(given.count.min(65_536))];
+    Both.survey(given, images, &map, &mut vec![7; room])
+}
+
 #[test]
 fn refusals_in_order() {
     let mut rng = Rng::new(50);
     let (good, images) = volume(&mut rng, 32, 3);
-    let survey = |given: &Given, images: &Images, room: usize| {
-        Both.survey(given, images, &mut vec![7; room])
-    };
     assert!(survey(&good, &images, 3).is_ok());
     assert!(survey(&good, &images, 5).is_ok());
     assert_eq!(survey(&good, &images, 2), Err(Refusal::ShortList));
     assert_eq!(survey(&good, &images, 0), Err(Refusal::ShortList));
+    for map in [&[][..], &[7, 7], &[7; 3]] {
+        for room in [0, 2, 3] {
+            let found = Both.survey(&good, &images, map, &mut vec![7; room]);
+            assert_eq!(found, Err(Refusal::MapLength));
+        }
+    }
 
     for count in [0, 2, 4, 65_537, usize::MAX] {
         let given = Given {
@@ -47,6 +58,17 @@ fn refusals_in_order() {
         };
         assert_eq!(survey(&given, &images, 0), Err(Refusal::VolumeShape));
     }
+    for image in 0..3 {
+        let mut longer = images.clone();
+        [&mut longer.local, &mut longer.tag, &mut longer.remote][image].push(0);
+        assert_eq!(survey(&good, &longer, 3), Err(Refusal::VolumeShape));
+    }
+}
+
+#[test]
+fn key_and_size_are_refused_first() {
+    let mut rng = Rng::new(54);
+    let (good, images) = volume(&mut rng, 32, 3);
     for size in [0, 15, 17, 4112, usize::MAX] {
         let given = Given {
             size,
@@ -64,11 +86,6 @@ fn refusals_in_order() {
         };
         assert_eq!(survey(&given, &images, 0), Err(Refusal::KeyLength));
     }
-    for image in 0..3 {
-        let mut longer = images.clone();
-        [&mut longer.local, &mut longer.tag, &mut longer.remote][image].push(0);
-        assert_eq!(survey(&good, &longer, 3), Err(Refusal::VolumeShape));
-    }
 }
 
 #[test]
@@ -76,27 +93,21 @@ fn the_largest_volume() {
     let mut rng = Rng::new(51);
     let count = 65_536;
     let (given, mut images) = volume(&mut rng, 16, count);
+    let mut map = vec![0; words(count)];
+    assert_eq!(Both.start_map(count, &mut map), Ok(()));
     for number in [0, 1, 40_000, 65_535] {
         let Images { local, tag, remote } = &mut images;
-        assert_eq!(
-            linked::blank(
-                &given.key,
-                given.volume,
-                16,
-                count,
-                number,
-                local,
-                tag,
-                remote
-            ),
-            0
-        );
+        let (key, v) = (&given.key, given.volume);
+        let answer = linked::blank(key, v, 16, count, number, local, tag, remote, &mut map);
+        assert_eq!(answer, 0);
     }
     let mut list = vec![0; count + 1];
     let survey = Both
-        .survey(&given, &images, &mut list)
+        .survey(&given, &images, &map, &mut list)
         .expect("the shape is right");
     assert_eq!((survey.whole, survey.lost), (4, count - 4));
+    let suspects = Both.count_suspects(count, &map);
+    assert_eq!(suspects, Ok(survey.lost as u64));
 }
 
 /// What a sector is made to be.
@@ -199,11 +210,12 @@ fn numbers(kinds: &[Kind], is: impl Fn(&Kind) -> bool) -> Vec<u32> {
 }
 
 /// Surveys a volume whose sectors are of these kinds, with so many entries more
-/// than sectors in the list.
+/// than sectors in the list. What the map says has no part in it.
 fn insist_on_survey(given: &Given, images: &Images, kinds: &[Kind], more: usize) {
     let filler = 0x5a5a_5a5a;
     let mut list = vec![filler; given.count + more];
-    let found = Both.survey(given, images, &mut list);
+    let map = random_words(&mut Rng::new(more as u64), words(given.count));
+    let found = Both.survey(given, images, &map, &mut list);
     let found = found.expect("the shape is right");
     let lost = numbers(kinds, |&kind| kind == Kind::Lost);
     let clashing = numbers(kinds, |&kind| kind == Kind::Clashing);

@@ -3,10 +3,11 @@
 
 mod common;
 
-use common::{any_volume, rounds, Arguments, Call, FILL};
+use common::{any_volume, random_words, rounds, Arguments, Call, FILL};
 use linked::both::Both;
 use reference::hex;
 use reference::history::{Calls, Given, Images};
+use reference::map::words;
 use reference::rng::Rng;
 use reference::seal::Sealed;
 use reference::volume::part;
@@ -23,12 +24,17 @@ fn two_numbers(rng: &mut Rng) -> (u64, u64) {
     (one, if other == one { near } else { other })
 }
 
-/// Makes a call by both. Gives the arguments as they are left.
+/// Makes a call by both. Gives the arguments as they are left. What is refused
+/// changes nothing, but a read or a mend of a lost sector sets its bit.
 fn insist_on(call: Call, given: &Arguments, due: u32) -> Arguments {
     let (number, left) = call.by_both(given);
     assert_eq!(number, due, "{call:?} under {}", given.volume);
     if due != 0 {
-        assert!(left == *given, "{call:?} is refused, and changes a byte");
+        let mut same = given.clone();
+        if due == 6 && call.is_on_volume() {
+            same.map[given.number / 64] |= 1 << (given.number % 64);
+        }
+        assert!(left == same, "{call:?} is refused, and changes a byte");
     }
     left
 }
@@ -120,6 +126,7 @@ fn new_volume(rng: &mut Rng, key: &[u8], volume: u64, s: usize, n: usize) -> Arg
         local: rng.bytes(n * s),
         tag: rng.bytes(n * 16),
         remote: rng.bytes(n * s),
+        map: random_words(rng, words(n)),
         out: vec![FILL; s],
         list: vec![u32::from(FILL); n],
         ..Arguments::none()
@@ -180,7 +187,7 @@ fn survey(lent: &Arguments) -> ([usize; 4], Vec<u32>) {
         remote: lent.remote.clone(),
     };
     let mut list = lent.list.clone();
-    let found = Both.survey(&given, &images, &mut list);
+    let found = Both.survey(&given, &images, &lent.map, &mut list);
     let found = found.expect("the shape is right");
     let counts = [found.whole, found.doubtful, found.clashing, found.lost];
     (counts, list)

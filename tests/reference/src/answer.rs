@@ -43,10 +43,11 @@ pub enum Refusal {
     WrongStage,
     ShortList,
     BadFrame,
+    MapLength,
 }
 
 impl Refusal {
-    /// The refusal's number, 1 to 12.
+    /// The refusal's number, 1 to 13.
     pub fn number(self) -> u8 {
         match self {
             Refusal::KeyLength => 1,
@@ -61,6 +62,7 @@ impl Refusal {
             Refusal::WrongStage => 10,
             Refusal::ShortList => 11,
             Refusal::BadFrame => 12,
+            Refusal::MapLength => 13,
         }
     }
 }
@@ -82,6 +84,20 @@ impl Success for Verdict {
             Verdict::Whole => 0,
             Verdict::Doubtful(place) => 0x80 | place.number(),
         }
+    }
+}
+
+/// A verdict with what it comes with.
+impl<T> Success for (Verdict, T) {
+    fn number(&self) -> u8 {
+        self.0.number()
+    }
+}
+
+/// Where only some of the calls find a verdict.
+impl Success for Option<Verdict> {
+    fn number(&self) -> u8 {
+        self.map_or(0, |verdict| verdict.number())
     }
 }
 

@@ -1,9 +1,12 @@
-//! Random histories of volumes, with the plain machine beside them.
+//! Random histories of volumes, with the plain machine and a log beside them.
 //!
 //! Every event is staged as the rules of a cut and of damage allow, and after
-//! every event each sector is held against what the machine says is kept. A
-//! history is that of one key and one volume's number. The calls are a
-//! parameter, so that any implementation can be put to the test.
+//! every event each sector is held against what the machine says is kept, and
+//! the map against what the log says of it. A history is that of one key and one
+//! volume's number. The calls are a parameter, so that any implementation can be
+//! put to the test.
+
+mod on_map;
 
 use std::collections::BTreeMap;
 
@@ -13,13 +16,18 @@ use crate::field::{to_block, to_bytes};
 use crate::machine::{Call, Ending, Event, Machine, Sector};
 use crate::rng::Rng;
 use crate::seal::{sealed, Sealed};
+use crate::suspects::{self, Entry, Log};
 use crate::volume::Survey;
-use crate::{seal, volume};
+use crate::{map, seal, volume};
+
+pub use crate::map::Kind;
+use on_map::insist_on_rule;
+pub use on_map::{insist_on_marks, insist_on_words};
 
 const FILL: u8 = 0x5a;
 
 /// What every call on a volume is given.
-#[derive(Clone)]
+#[derive(Clone, PartialEq, Eq)]
 pub struct Given {
     pub key: Vec<u8>,
     /// The volume's number.
@@ -41,51 +49,70 @@ pub type Answer = Result<Option<Verdict>, Refusal>;
 /// An implementation of the calls.
 pub trait Calls {
     /// Runs a call to its end. `output` is a read's.
-    fn run(&self, request: &Request, images: &mut Images, output: &mut [u8]) -> Answer;
+    fn run(
+        &self,
+        request: &Request,
+        images: &mut Images,
+        map: &mut [u64],
+        output: &mut [u8],
+    ) -> Answer;
 
-    fn survey(&self, given: &Given, images: &Images, list: &mut [u32]) -> Result<Survey, Refusal>;
+    fn survey(
+        &self,
+        given: &Given,
+        images: &Images,
+        map: &[u64],
+        list: &mut [u32],
+    ) -> Result<Survey, Refusal>;
+
+    fn start_map(&self, count: usize, map: &mut [u64]) -> Result<(), Refusal>;
+
+    fn count_suspects(&self, count: usize, map: &[u64]) -> Result<u64, Refusal>;
 }
 
 /// The calls of this package.
 pub struct Reference;
 
 impl Calls for Reference {
-    fn run(&self, request: &Request, images: &mut Images, output: &mut [u8]) -> Answer {
+    fn run(
+        &self,
+        request: &Request,
+        images: &mut Images,
+        map: &mut [u64],
+        output: &mut [u8],
+    ) -> Answer {
         let Given {
             ref key,
-            volume,
-            size,
-            count,
+            volume: v,
+            size: s,
+            count: n,
         } = request.given;
         let Images { local, tag, remote } = images;
-        let (number, text) = (request.number, &request.plaintext);
+        let (i, text) = (request.number, &request.plaintext);
         let done = |()| None;
         match request.kind {
-            Kind::Blank => {
-                volume::blank(key, volume, size, count, local, tag, remote, number).map(done)
-            }
+            Kind::Blank => volume::blank(key, v, s, n, local, tag, remote, map, i).map(done),
             Kind::First => {
-                volume::first_stage(key, volume, size, count, local, tag, remote, number, text)
-                    .map(done)
+                volume::first_stage(key, v, s, n, local, tag, remote, map, i, text).map(done)
             }
             Kind::Second => {
-                volume::second_stage(key, volume, size, count, local, tag, remote, number, text)
-                    .map(done)
+                volume::second_stage(key, v, s, n, local, tag, remote, map, i, text).map(done)
             }
             Kind::Third => {
-                volume::third_stage(key, volume, size, count, local, tag, remote, number, text)
-                    .map(done)
+                volume::third_stage(key, v, s, n, local, tag, remote, map, i, text).map(done)
             }
-            Kind::Mend => {
-                volume::mend(key, volume, size, count, local, tag, remote, number).map(Some)
-            }
-            Kind::Read => {
-                volume::read(key, volume, size, count, local, tag, remote, number, output).map(Some)
-            }
+            Kind::Mend => volume::mend(key, v, s, n, local, tag, remote, map, i).map(Some),
+            Kind::Read => volume::read(key, v, s, n, local, tag, remote, map, i, output).map(Some),
         }
     }
 
-    fn survey(&self, given: &Given, images: &Images, list: &mut [u32]) -> Result<Survey, Refusal> {
+    fn survey(
+        &self,
+        given: &Given,
+        images: &Images,
+        map: &[u64],
+        list: &mut [u32],
+    ) -> Result<Survey, Refusal> {
         let Given {
             ref key,
             volume,
@@ -93,7 +120,15 @@ impl Calls for Reference {
             count,
         } = *given;
         let Images { local, tag, remote } = images;
-        volume::survey(key, volume, size, count, local, tag, remote, list)
+        volume::survey(key, volume, size, count, local, tag, remote, map, list)
+    }
+
+    fn start_map(&self, count: usize, map: &mut [u64]) -> Result<(), Refusal> {
+        map::start(count, map)
+    }
+
+    fn count_suspects(&self, count: usize, map: &[u64]) -> Result<u64, Refusal> {
+        map::count_suspects(count, map)
     }
 }
 
@@ -115,18 +150,8 @@ impl Images {
     }
 }
 
-/// A call without its plaintext.
-#[derive(Clone, Copy, Debug, PartialEq, Eq)]
-pub enum Kind {
-    Blank,
-    First,
-    Second,
-    Third,
-    Mend,
-    Read,
-}
-
-/// A call and all that it takes but the images.
+/// A call and all that it takes but the images and the map.
+#[derive(Clone)]
 pub struct Request {
     pub kind: Kind,
     pub given: Given,
@@ -134,6 +159,8 @@ pub struct Request {
     pub plaintext: Vec<u8>,
     /// The length of a read's output.
     pub output: usize,
+    /// The words of the map that it is lent.
+    pub words: usize,
 }
 
 impl Request {
@@ -168,7 +195,11 @@ pub struct Tally(pub BTreeMap<String, usize>);
 
 impl Tally {
     fn add(&mut self, what: &str) {
-        *self.0.entry(what.to_string()).or_default() += 1;
+        self.add_many(what, 1);
+    }
+
+    fn add_many(&mut self, what: &str, times: usize) {
+        *self.0.entry(what.to_string()).or_default() += times;
     }
 
     pub fn get(&self, what: &str) -> usize {
@@ -176,13 +207,42 @@ impl Tally {
     }
 }
 
-/// A volume with its machine and what the writers of it have in mind.
+/// What happens in a stretch of a history, besides finished and refused calls.
+#[derive(Clone, Copy, Debug, PartialEq, Eq)]
+enum Stretch {
+    /// Damage, and cuts, after which the map is started anew.
+    Cuts,
+    /// Nothing.
+    CallsAlone,
+    /// Damage, cuts, and calls under another key or number that are accepted, and
+    /// nothing starts the map anew. Of this the machine says nothing.
+    AnyWriter,
+}
+
+/// So many sectors are all looked at after every event, of more only some.
+const FEW: usize = 8;
+
+/// Sectors of a volume of many that are often chosen: those at the ends of the
+/// volume and about the ends of a word of the map.
+const FREQUENT: [usize; 8] = [0, 1, 62, 63, 64, 65, 127, 128];
+
+/// A volume with its map, its machine and log, and what the writers of it have in
+/// mind.
 struct History<'a> {
     calls: &'a dyn Calls,
     rng: Rng,
     given: Given,
     images: Images,
+    map: Vec<u64>,
     machine: Machine,
+    log: Log,
+    stretch: Stretch,
+    /// How many events of the stretch are to come.
+    to_come: usize,
+    /// What another writer to the images takes.
+    other: Given,
+    /// The sector that damage fell on last, until the next call.
+    damaged: Option<usize>,
     /// Plaintexts to choose from, some with equal tags.
     pool: Vec<Vec<u8>>,
     /// The plaintext on its way into each sector.
@@ -199,48 +259,132 @@ impl<'a> History<'a> {
             tag: rng.bytes(count * 16),
             remote: rng.bytes(count * size),
         };
-        History {
+        let mut history = History {
             calls,
-            rng,
             images,
+            map: vec![0; map::words(count)],
             machine: Machine::new(size, count),
+            log: Log::default(),
+            stretch: Stretch::Cuts,
+            to_come: 0,
+            other: given.clone(),
+            damaged: None,
             drafts: vec![pool[0].clone(); count],
             pool,
             given,
+            rng,
             tally,
+        };
+        history.other.volume = history.other_volume();
+        if history.rng.chance(50) {
+            history.other.key = history.rng.bytes(32);
         }
+        history.start_anew();
+        history
     }
 
     fn step(&mut self) {
+        self.go_on();
         if self.rng.chance(10) {
-            self.damage();
-        } else {
-            let request = self.choose_request();
-            self.call(&request);
+            self.call_on_map();
         }
-        for number in 0..self.given.count {
-            self.check(number);
+        let number = self.event();
+        self.check_map();
+        if self.stretch != Stretch::AnyWriter {
+            for number in self.looked_at(number) {
+                self.check(number);
+            }
         }
-        self.check_survey();
+        if self.given.count <= FEW || self.rng.chance(5) {
+            self.check_survey();
+        }
+    }
+
+    /// Goes on to another stretch where one is at its end. The machine begins anew
+    /// behind one of which it says nothing, since a volume may begin with any
+    /// bytes.
+    fn go_on(&mut self) {
+        if self.to_come == 0 {
+            if self.stretch == Stretch::AnyWriter {
+                self.machine = Machine::new(self.given.size, self.given.count);
+            }
+            self.stretch = match self.rng.below(10) {
+                0..=4 => Stretch::Cuts,
+                5..=6 => Stretch::CallsAlone,
+                _ => Stretch::AnyWriter,
+            };
+            self.to_come = 10 + self.rng.below(60);
+            if self.stretch == Stretch::CallsAlone {
+                self.start_in_the_middle();
+            }
+            self.tally.add(&format!("stretch of {:?}", self.stretch));
+        }
+        self.to_come -= 1;
+    }
+
+    /// All sectors where there are few, else the one that an event named and some
+    /// more.
+    fn looked_at(&mut self, number: usize) -> Vec<usize> {
+        if self.given.count <= FEW {
+            return (0..self.given.count).collect();
+        }
+        let [one, another] = [(); 2].map(|()| self.choose_number());
+        vec![number, one, another]
     }
 
     // Events.
 
-    fn choose_request(&mut self) -> Request {
-        let number = self.rng.below(self.given.count);
-        let kind = self.choose_kind(number);
-        let plaintext = self.choose_plaintext(kind, number);
-        let mut request = Request {
-            kind,
-            given: self.given.clone(),
-            number,
-            plaintext,
-            output: self.given.size,
+    /// Makes one event and gives the sector that it was on, or some sector where
+    /// it named none.
+    fn event(&mut self) -> usize {
+        let damage = match self.stretch {
+            Stretch::Cuts => 10,
+            Stretch::CallsAlone => 0,
+            Stretch::AnyWriter => 20,
         };
+        if self.rng.chance(damage) {
+            return self.damage();
+        }
+        let request = self.choose_request();
+        self.call(&request);
+        request.number.min(self.given.count - 1)
+    }
+
+    fn choose_request(&mut self) -> Request {
+        let (kind, number) = match self.damaged.take() {
+            Some(number) if self.stretch == Stretch::AnyWriter && self.rng.chance(80) => {
+                let kinds = [Kind::Read, Kind::Read, Kind::Mend];
+                (*self.rng.pick(&kinds), number)
+            }
+            _ => self.choose_call(),
+        };
+        let plaintext = self.choose_plaintext(kind, number);
+        let mut request = self.request(kind, number, &plaintext);
+        if self.stretch == Stretch::AnyWriter && self.rng.chance(40) {
+            request.given = self.other.clone();
+        }
         if self.rng.chance(15) {
             self.spoil(&mut request);
+            // Two at once show the order of the refusals.
+            if self.rng.chance(20) {
+                self.spoil(&mut request);
+            }
         }
         request
+    }
+
+    fn choose_call(&mut self) -> (Kind, usize) {
+        let number = self.choose_number();
+        (self.choose_kind(number), number)
+    }
+
+    fn choose_number(&mut self) -> usize {
+        let count = self.given.count;
+        if count > FEW && self.rng.chance(80) {
+            let frequent = *self.rng.pick(&FREQUENT);
+            return frequent.min(count - 1);
+        }
+        self.rng.below(count)
     }
 
     fn choose_kind(&mut self, number: usize) -> Kind {
@@ -250,9 +394,9 @@ impl<'a> History<'a> {
         match self.rng.below(100) {
             0..=3 => Kind::Blank,
             4..=33 => Kind::First,
-            34..=58 => Kind::Second,
-            59..=79 => Kind::Third,
-            80..=91 => Kind::Mend,
+            34..=57 => Kind::Second,
+            58..=77 => Kind::Third,
+            78..=88 => Kind::Mend,
             _ => Kind::Read,
         }
     }
@@ -275,7 +419,7 @@ impl<'a> History<'a> {
 
     /// Gives the call something that is not the volume's.
     fn spoil(&mut self, request: &mut Request) {
-        match self.rng.below(15) {
+        match self.rng.below(18) {
             0 => request.given.key = self.rng.bytes(31),
             1 => request.given.key = self.rng.bytes(32),
             2 => request.given.size += 1,
@@ -287,6 +431,7 @@ impl<'a> History<'a> {
                 request.plaintext.push(0);
                 request.output += 1;
             }
+            8..=10 => request.words = self.wrong_words(),
             // Most often, since only the verdict can refuse it.
             _ => request.given.volume = self.other_volume(),
         }
@@ -313,17 +458,19 @@ impl<'a> History<'a> {
     fn call(&mut self, request: &Request) {
         let before = self.images.clone();
         let mut after = before.clone();
-        let outcome = self.run(request, &mut after);
+        let mut output = vec![FILL; request.output];
+        let (outcome, map) = self.run(request, &mut after, &mut output);
         self.insist_on_answer(request, outcome);
-        let cut = self.rng.chance(30);
+        let cut = self.stretch != Stretch::CallsAlone && self.rng.chance(30);
         let Ok(found) = outcome else {
-            assert!(after == before, "a refused call wrote");
+            let same_output = output.iter().all(|&byte| byte == FILL);
+            assert!(after == before && same_output, "a refused call wrote");
             let tag_is_new = self.rng.chance(50);
             self.tell(request, ending(cut, tag_is_new), true);
+            self.keep_map(request, outcome, map, cut);
             return;
         };
-        let Given { key, volume, .. } = &request.given;
-        if *key != self.given.key || *volume != self.given.volume {
+        if request.given != self.given && self.stretch != Stretch::AnyWriter {
             // Only a call that is refused may come with another key or number.
             return;
         }
@@ -332,6 +479,7 @@ impl<'a> History<'a> {
         if !cut {
             self.images = after;
             self.tell(request, Ending::Finished, false);
+            self.keep_map(request, outcome, map, false);
             return;
         }
         self.images = self.cut(&before, &after, request.number, written);
@@ -341,23 +489,32 @@ impl<'a> History<'a> {
             self.rng.chance(50)
         };
         self.tell(request, ending(true, tag_is_new), false);
+        self.keep_map(request, outcome, map, true);
     }
 
     fn tell(&mut self, request: &Request, ending: Ending, refused: bool) {
-        self.machine.feed(&Event::Call {
-            call: request.call(),
-            number: request.number,
-            ending,
-            refused,
-        });
         self.tally.add("events");
         let how = match (refused, ending) {
             (true, _) => "refused",
             (false, Ending::Finished) => "finished",
             (false, Ending::Cut { .. }) => "cut",
         };
+        if self.stretch == Stretch::AnyWriter {
+            let own = request.given == self.given;
+            let whose = if own { "its own" } else { "another" };
+            self.tally
+                .add(&format!("beside any writer, {whose} call {how}"));
+            return;
+        }
+        self.machine.feed(&Event::Call {
+            call: request.call(),
+            number: request.number,
+            ending,
+            refused,
+        });
         self.tally.add(&format!("{:?} {how}", request.kind));
         if request.given.volume != self.given.volume
+            && request.number < self.given.count
             && *self.machine.sector(request.number) != Sector::Gone
         {
             self.tally
@@ -370,7 +527,8 @@ impl<'a> History<'a> {
     /// it accepts under another number is left out.
     fn insist_on_answer(&self, request: &Request, answer: Answer) {
         let mut output = vec![FILL; request.output];
-        let due = Reference.run(request, &mut self.images.clone(), &mut output);
+        let (mut images, mut map) = (self.images.clone(), self.lent(request.words));
+        let due = Reference.run(request, &mut images, &mut map, &mut output);
         assert_eq!(answer, due, "another answer to {:?}", request.kind);
     }
 
@@ -419,16 +577,30 @@ impl<'a> History<'a> {
         images
     }
 
-    fn damage(&mut self) {
-        let number = self.rng.below(self.given.count);
+    fn damage(&mut self) -> usize {
+        let number = self.choose_damaged();
         let place = *self.rng.pick(&Place::ALL);
         let bytes = self.damaged_bytes(number, place);
         self.images
             .place_mut(self.given.size, number, place)
             .copy_from_slice(&bytes);
         self.machine.feed(&Event::Damage { number, place });
+        self.log.push(Entry::Written);
+        self.damaged = Some(number);
         self.tally.add("events");
         self.tally.add("Damage");
+        number
+    }
+
+    /// Beside any writer mostly a sector that is clear in the map, if there is one:
+    /// a read then shows what it does to a clear bit.
+    fn choose_damaged(&mut self) -> usize {
+        let bits = suspects::bits(&self.map);
+        let clear: Vec<usize> = (0..self.given.count).filter(|&i| !bits[i]).collect();
+        if self.stretch == Stretch::AnyWriter && !clear.is_empty() && self.rng.chance(60) {
+            return *self.rng.pick(&clear);
+        }
+        self.choose_number()
     }
 
     /// Any bytes: random, nearly right, right, or right for something else.
@@ -470,12 +642,29 @@ impl<'a> History<'a> {
             number,
             plaintext: plaintext.to_vec(),
             output: self.given.size,
+            words: self.map.len(),
         }
     }
 
-    fn run(&self, request: &Request, images: &mut Images) -> Answer {
-        let mut output = vec![FILL; request.output];
-        self.calls.run(request, images, &mut output)
+    /// A copy of the map, cut or with more behind it, to be lent.
+    fn lent(&self, words: usize) -> Vec<u64> {
+        let mut map = self.map.clone();
+        map.resize(words, u64::from_ne_bytes([FILL; 8]));
+        map
+    }
+
+    /// Makes a call on a copy of the map, or on a map of another length, and gives
+    /// what it leaves of it, which must be as the rule says.
+    fn run(&self, request: &Request, images: &mut Images, output: &mut [u8]) -> (Answer, Vec<u64>) {
+        let mut map = self.lent(request.words);
+        let answer = self.calls.run(request, images, &mut map, output);
+        if request.words == self.map.len() {
+            insist_on_rule(&map, &self.log, &[self.entry(request, answer)]);
+        } else {
+            let lent = self.lent(request.words);
+            assert_eq!(map, lent, "a map of another length was written");
+        }
+        (answer, map)
     }
 
     /// Reads, and insists that no image is changed and a refusal leaves the
@@ -484,7 +673,7 @@ impl<'a> History<'a> {
         let request = self.request(Kind::Read, number, &[]);
         let mut same = images.clone();
         let mut output = vec![FILL; self.given.size];
-        let answer = self.calls.run(&request, &mut same, &mut output);
+        let (answer, _) = self.run(&request, &mut same, &mut output);
         assert!(same == *images, "a read wrote");
         match answer {
             Ok(verdict) => Ok((verdict.expect("a read finds a verdict"), output)),
@@ -498,7 +687,8 @@ impl<'a> History<'a> {
     /// Mends a copy.
     fn mend(&self, number: usize) -> (Answer, Images) {
         let mut images = self.images.clone();
-        let answer = self.run(&self.request(Kind::Mend, number, &[]), &mut images);
+        let request = self.request(Kind::Mend, number, &[]);
+        let (answer, _) = self.run(&request, &mut images, &mut []);
         (answer, images)
     }
 
@@ -543,7 +733,7 @@ impl<'a> History<'a> {
         ] {
             let mut images = self.images.clone();
             let first = self.request(Kind::First, number, &new);
-            assert_eq!(self.run(&first, &mut images), Ok(None));
+            assert_eq!(self.run(&first, &mut images, &mut []).0, Ok(None));
             let sealed = self.sealed(number, &new);
             let local = images.place(self.given.size, number, Place::Local);
             assert_eq!(local, sealed.local);
@@ -605,7 +795,9 @@ impl<'a> History<'a> {
     fn check_survey(&mut self) {
         let count = self.given.count;
         let mut list = vec![u32::MAX; count];
-        let found = self.calls.survey(&self.given, &self.images, &mut list);
+        let found = self
+            .calls
+            .survey(&self.given, &self.images, &self.map, &mut list);
         let found = found.expect("the volume's own shape");
         let urgencies: Vec<_> = (0..count)
             .map(|number| urgency(self.read(&self.images, number)))
@@ -707,7 +899,8 @@ pub fn run_histories(
     for seed in seeds {
         for &(size, count) in volumes {
             for h_is_zero in [false, true] {
-                let mut rng = Rng::new(1000 * seed + size as u64 + u64::from(h_is_zero));
+                let shape = (size + 3 * count) as u64;
+                let mut rng = Rng::new(1000 * seed + shape + u64::from(h_is_zero));
                 let mut key = rng.bytes(32);
                 if h_is_zero {
                     key[..16].fill(0);

@@ -1,8 +1,9 @@
-//! A volume of sealed sectors, held in three images.
+//! A volume of sealed sectors, held in three images, with a map of suspects.
 //!
 //! Every call is lent all three images, since refusal 8 looks at each of them;
-//! it is lent writable only those that it may write. `volume` is the volume's
-//! number and `number` that of a sector.
+//! it is lent writable only those that it may write. A call on one sector marks
+//! that sector's bit in the map once its answer is certain. `volume` is the
+//! volume's number and `number` that of a sector.
 
 // The calls take what the requirement names, one parameter for each.
 #![allow(clippy::too_many_arguments)]
@@ -11,6 +12,7 @@ use std::ops::Range;
 
 use crate::answer::{Place, Refusal, Verdict};
 use crate::field::{to_blocks, write_blocks, BLOCK_BYTES};
+use crate::map::{check_words, marked, Kind};
 use crate::seal::{check_length, check_sector_size, Sealer, Triple, TAG_BYTES};
 
 /// The most sectors that a volume can have.
@@ -36,15 +38,16 @@ pub fn blank(
     local: &mut [u8],
     tag: &mut [u8],
     remote: &mut [u8],
+    map: &mut [u64],
     number: usize,
 ) -> Result<(), Refusal> {
-    let sealer = check_sector(key, size, count, local, tag, remote, number)?;
+    let sealer = check_sector(key, size, count, local, tag, remote, map, number)?;
     let zeros = vec![0; size / BLOCK_BYTES];
     let sealed = sealer.seal(volume, number as u64, &zeros);
     write_blocks(&sealed.local, &mut local[part(number, size)]);
     write_blocks(&[sealed.tag], &mut tag[part(number, TAG_BYTES)]);
     write_blocks(&sealed.remote, &mut remote[part(number, size)]);
-    Ok(())
+    marked(Kind::Blank, map, number, Ok(()))
 }
 
 /// Writes the local sector of a plaintext over a whole sector.
@@ -56,17 +59,18 @@ pub fn first_stage(
     local: &mut [u8],
     tag: &[u8],
     remote: &[u8],
+    map: &mut [u64],
     number: usize,
     plaintext: &[u8],
 ) -> Result<(), Refusal> {
-    let sealer = check_sector(key, size, count, local, tag, remote, number)?;
+    let sealer = check_sector(key, size, count, local, tag, remote, map, number)?;
     check_length(plaintext, size)?;
     let held = held(size, local, tag, remote, number);
     let is_whole = matches!(
         sealer.judge(volume, number as u64, &held),
         Ok((Verdict::Whole, _))
     );
-    allow_stage(is_whole)?;
+    marked(Kind::First, map, number, allow_stage(is_whole))?;
     let sealed = sealer.seal(volume, number as u64, &to_blocks(plaintext));
     write_blocks(&sealed.local, &mut local[part(number, size)]);
     Ok(())
@@ -81,14 +85,16 @@ pub fn second_stage(
     local: &[u8],
     tag: &mut [u8],
     remote: &[u8],
+    map: &mut [u64],
     number: usize,
     plaintext: &[u8],
 ) -> Result<(), Refusal> {
-    let sealer = check_sector(key, size, count, local, tag, remote, number)?;
+    let sealer = check_sector(key, size, count, local, tag, remote, map, number)?;
     check_length(plaintext, size)?;
     let held = held(size, local, tag, remote, number);
     let sealed = sealer.seal(volume, number as u64, &to_blocks(plaintext));
-    allow_stage(sealed.local == held.local)?;
+    let fits = sealed.local == held.local;
+    marked(Kind::Second, map, number, allow_stage(fits))?;
     write_blocks(&[sealed.tag], &mut tag[part(number, TAG_BYTES)]);
     Ok(())
 }
@@ -103,14 +109,16 @@ pub fn third_stage(
     local: &[u8],
     tag: &[u8],
     remote: &mut [u8],
+    map: &mut [u64],
     number: usize,
     plaintext: &[u8],
 ) -> Result<(), Refusal> {
-    let sealer = check_sector(key, size, count, local, tag, remote, number)?;
+    let sealer = check_sector(key, size, count, local, tag, remote, map, number)?;
     check_length(plaintext, size)?;
     let held = held(size, local, tag, remote, number);
     let sealed = sealer.seal(volume, number as u64, &to_blocks(plaintext));
-    allow_stage(sealed.local == held.local && sealed.tag == held.tag)?;
+    let fits = sealed.local == held.local && sealed.tag == held.tag;
+    marked(Kind::Third, map, number, allow_stage(fits))?;
     write_blocks(&sealed.remote, &mut remote[part(number, size)]);
     Ok(())
 }
@@ -124,13 +132,15 @@ pub fn read(
     local: &[u8],
     tag: &[u8],
     remote: &[u8],
+    map: &mut [u64],
     number: usize,
     output: &mut [u8],
 ) -> Result<Verdict, Refusal> {
-    let sealer = check_sector(key, size, count, local, tag, remote, number)?;
+    let sealer = check_sector(key, size, count, local, tag, remote, map, number)?;
     check_length(output, size)?;
     let held = held(size, local, tag, remote, number);
-    let (verdict, plaintext) = sealer.judge(volume, number as u64, &held)?;
+    let judged = sealer.judge(volume, number as u64, &held);
+    let (verdict, plaintext) = marked(Kind::Read, map, number, judged)?;
     write_blocks(&plaintext, output);
     Ok(verdict)
 }
@@ -145,11 +155,13 @@ pub fn mend(
     local: &mut [u8],
     tag: &mut [u8],
     remote: &mut [u8],
+    map: &mut [u64],
     number: usize,
 ) -> Result<Verdict, Refusal> {
-    let sealer = check_sector(key, size, count, local, tag, remote, number)?;
+    let sealer = check_sector(key, size, count, local, tag, remote, map, number)?;
     let held = held(size, local, tag, remote, number);
-    let (verdict, plaintext) = sealer.judge(volume, number as u64, &held)?;
+    let judged = sealer.judge(volume, number as u64, &held);
+    let (verdict, plaintext) = marked(Kind::Mend, map, number, judged)?;
     if let Verdict::Doubtful(place) = verdict {
         let sealed = sealer.seal(volume, number as u64, &plaintext);
         match place {
@@ -163,7 +175,8 @@ pub fn mend(
 
 /// Judges every sector, counts the verdicts and lists, in repair order, the
 /// numbers of the sectors that are not whole: first the lost, then the
-/// clashing, then the doubtful, rising within each kind.
+/// clashing, then the doubtful, rising within each kind. The map it leaves
+/// alone.
 pub fn survey(
     key: &[u8],
     volume: u64,
@@ -172,9 +185,10 @@ pub fn survey(
     local: &[u8],
     tag: &[u8],
     remote: &[u8],
+    map: &[u64],
     list: &mut [u32],
 ) -> Result<Survey, Refusal> {
-    let sealer = check_volume(key, size, count, local, tag, remote)?;
+    let sealer = check_volume(key, size, count, local, tag, remote, map)?;
     if list.len() < count {
         return Err(Refusal::ShortList);
     }
@@ -224,7 +238,7 @@ impl Survey {
     }
 }
 
-/// Refusals 1, 2 and 8.
+/// Refusals 1, 2, 8 and 13.
 fn check_volume(
     key: &[u8],
     size: usize,
@@ -232,21 +246,31 @@ fn check_volume(
     local: &[u8],
     tag: &[u8],
     remote: &[u8],
+    map: &[u64],
 ) -> Result<Sealer, Refusal> {
     let sealer = Sealer::new(key)?;
     check_sector_size(size)?;
-    let fits = (1..=MAX_SECTORS).contains(&count)
-        && local.len() == count * size
+    check_count(count)?;
+    let fits = local.len() == count * size
         && tag.len() == count * TAG_BYTES
         && remote.len() == count * size;
-    if fits {
-        Ok(sealer)
+    if !fits {
+        return Err(Refusal::VolumeShape);
+    }
+    check_words(count, map)?;
+    Ok(sealer)
+}
+
+/// Refusal 8 for the number of sectors.
+pub(crate) fn check_count(count: usize) -> Result<(), Refusal> {
+    if (1..=MAX_SECTORS).contains(&count) {
+        Ok(())
     } else {
         Err(Refusal::VolumeShape)
     }
 }
 
-/// Refusals 1, 2, 8 and 9.
+/// Refusals 1, 2, 8, 13 and 9.
 fn check_sector(
     key: &[u8],
     size: usize,
@@ -254,9 +278,10 @@ fn check_sector(
     local: &[u8],
     tag: &[u8],
     remote: &[u8],
+    map: &[u64],
     number: usize,
 ) -> Result<Sealer, Refusal> {
-    let sealer = check_volume(key, size, count, local, tag, remote)?;
+    let sealer = check_volume(key, size, count, local, tag, remote, map)?;
     if number < count {
         Ok(sealer)
     } else {

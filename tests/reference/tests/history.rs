@@ -2,9 +2,9 @@
 
 use std::panic::{catch_unwind, AssertUnwindSafe};
 
-use reference::answer::Refusal;
-use reference::history::{insist_on_variety, run_histories, Reference};
-use reference::history::{Answer, Calls, Given, Images, Kind, Request};
+use reference::answer::{answer_number, Refusal};
+use reference::history::{insist_on_marks, insist_on_variety, insist_on_words, run_histories};
+use reference::history::{Answer, Calls, Given, Images, Kind, Reference, Request};
 use reference::volume::Survey;
 
 #[test]
@@ -15,9 +15,20 @@ fn histories_keep_what_the_machine_keeps() {
         println!("{what}: {times}");
     }
     insist_on_variety(&tally);
+    insist_on_marks(&tally);
     for what in ["number 0", "number 1", "largest number", "any number"] {
         assert!(tally.get(&format!("history under {what}")) > 0, "{what}");
     }
+}
+
+/// Volumes whose map has more words than one.
+#[test]
+fn histories_of_many_sectors() {
+    let tally = run_histories(&Reference, 0..2, &[(16, 65), (16, 130)], 250);
+    for (what, times) in &tally.0 {
+        println!("{what}: {times}");
+    }
+    insist_on_words(&tally);
 }
 
 /// This package's calls, but the one of this kind, or the survey where there is
@@ -37,25 +48,42 @@ impl Deaf {
 }
 
 impl Calls for Deaf {
-    fn run(&self, request: &Request, images: &mut Images, output: &mut [u8]) -> Answer {
+    fn run(
+        &self,
+        request: &Request,
+        images: &mut Images,
+        map: &mut [u64],
+        output: &mut [u8],
+    ) -> Answer {
         if self.kind != Some(request.kind) {
-            return Reference.run(request, images, output);
+            return Reference.run(request, images, map, output);
         }
         let request = Request {
-            kind: request.kind,
             given: self.given(&request.given),
-            number: request.number,
-            plaintext: request.plaintext.clone(),
-            output: request.output,
+            ..request.clone()
         };
-        Reference.run(&request, images, output)
+        Reference.run(&request, images, map, output)
     }
 
-    fn survey(&self, given: &Given, images: &Images, list: &mut [u32]) -> Result<Survey, Refusal> {
+    fn survey(
+        &self,
+        given: &Given,
+        images: &Images,
+        map: &[u64],
+        list: &mut [u32],
+    ) -> Result<Survey, Refusal> {
         match self.kind {
-            Some(_) => Reference.survey(given, images, list),
-            None => Reference.survey(&self.given(given), images, list),
+            Some(_) => Reference.survey(given, images, map, list),
+            None => Reference.survey(&self.given(given), images, map, list),
         }
+    }
+
+    fn start_map(&self, count: usize, map: &mut [u64]) -> Result<(), Refusal> {
+        Reference.start_map(count, map)
+    }
+
+    fn count_suspects(&self, count: usize, map: &[u64]) -> Result<u64, Refusal> {
+        Reference.count_suspects(count, map)
     }
 }
 
@@ -82,5 +110,160 @@ fn histories_notice_a_deaf_call() {
             let passed = catch_unwind(AssertUnwindSafe(run)).is_ok();
             assert!(!passed, "{kind:?}");
         }
+    }
+}
+
+/// A mistake about the map, or about the images alone.
+#[derive(Clone, Copy, Debug)]
+enum Mistake {
+    /// The call with this answer leaves its bit other than it must be.
+    OtherBit(Kind, u8),
+    /// The call with this answer leaves the map alone.
+    NoMark(Kind, u8),
+    HighestBitFirst,
+    NextSectorToo,
+    StartsNothing,
+    StartsPastTheCount,
+    CountsPastTheCount,
+    TakesLongerMaps,
+    /// The call says that it is done, and writes no image.
+    WritesNoImage(Kind),
+}
+
+/// This package's calls with a mistake.
+struct Mistaken(Mistake);
+
+fn flip(map: &mut [u64], number: usize) {
+    map[number / 64] ^= 1 << (number % 64);
+}
+
+fn reversed(map: &[u64]) -> Vec<u64> {
+    map.iter().map(|word| word.reverse_bits()).collect()
+}
+
+impl Calls for Mistaken {
+    fn run(
+        &self,
+        request: &Request,
+        images: &mut Images,
+        map: &mut [u64],
+        output: &mut [u8],
+    ) -> Answer {
+        let before = (images.clone(), map.to_vec());
+        if matches!(self.0, Mistake::HighestBitFirst) {
+            map.copy_from_slice(&reversed(map));
+        }
+        let answer = Reference.run(request, images, map, output);
+        let this = (request.kind, answer_number(&answer));
+        let number = request.number;
+        match self.0 {
+            Mistake::OtherBit(kind, of) if this == (kind, of) => flip(map, number),
+            Mistake::NoMark(kind, of) if this == (kind, of) => map.copy_from_slice(&before.1),
+            Mistake::HighestBitFirst => map.copy_from_slice(&reversed(map)),
+            Mistake::NextSectorToo if before.1 != map => flip(map, (number + 1) % 64),
+            Mistake::WritesNoImage(kind) if kind == request.kind => *images = before.0,
+            _ => {}
+        }
+        answer
+    }
+
+    fn survey(
+        &self,
+        given: &Given,
+        images: &Images,
+        map: &[u64],
+        list: &mut [u32],
+    ) -> Result<Survey, Refusal> {
+        Reference.survey(given, images, map, list)
+    }
+
+    fn start_map(&self, count: usize, map: &mut [u64]) -> Result<(), Refusal> {
+        match self.0 {
+            Mistake::StartsNothing => Reference.start_map(count, &mut map.to_vec()),
+            Mistake::HighestBitFirst => {
+                let answer = Reference.start_map(count, map);
+                map.copy_from_slice(&reversed(map));
+                answer
+            }
+            Mistake::StartsPastTheCount => {
+                let answer = Reference.start_map(count, map);
+                map.fill(u64::MAX);
+                answer
+            }
+            Mistake::TakesLongerMaps if map.len() > 1 => Reference.start_map(count, &mut map[..1]),
+            _ => Reference.start_map(count, map),
+        }
+    }
+
+    fn count_suspects(&self, count: usize, map: &[u64]) -> Result<u64, Refusal> {
+        let found = Reference.count_suspects(count, map)?;
+        match self.0 {
+            Mistake::CountsPastTheCount => {
+                Ok(map.iter().map(|word| u64::from(word.count_ones())).sum())
+            }
+            _ => Ok(found),
+        }
+    }
+}
+
+/// What the histories of a seed say of calls with a mistake, if they notice it.
+fn complaint(mistake: Mistake, seed: u64) -> Option<String> {
+    let calls = Mistaken(mistake);
+    let run = || run_histories(&calls, seed..seed + 1, &[(16, 3), (32, 2)], 300);
+    let payload = catch_unwind(AssertUnwindSafe(run)).err()?;
+    let text = payload.downcast_ref::<String>();
+    Some(text.expect("a text with a value").clone())
+}
+
+/// Whether one of some seeds says this of the mistake.
+fn is_noticed(mistake: Mistake, due: &str) -> bool {
+    (0..8).any(|seed| complaint(mistake, seed).is_some_and(|text| text.contains(due)))
+}
+
+/// Each wrong mark is noticed by the first claim.
+#[test]
+fn histories_notice_a_wrong_mark() {
+    let mut mistakes = vec![
+        Mistake::HighestBitFirst,
+        Mistake::NextSectorToo,
+        Mistake::StartsNothing,
+        Mistake::StartsPastTheCount,
+    ];
+    for (kind, answers) in [
+        (Kind::Blank, &[0][..]),
+        (Kind::First, &[0]),
+        (Kind::Second, &[0]),
+        (Kind::Third, &[0]),
+        (Kind::Mend, &[0, 0x81, 0x82, 0x83, 6, 7]),
+        (Kind::Read, &[0, 0x81, 0x82, 0x83, 6, 7]),
+    ] {
+        for &answer in answers {
+            mistakes.push(Mistake::OtherBit(kind, answer));
+            mistakes.push(Mistake::NoMark(kind, answer));
+        }
+    }
+    for stage in [Kind::First, Kind::Second, Kind::Third] {
+        mistakes.push(Mistake::OtherBit(stage, 10));
+    }
+    for mistake in mistakes {
+        let due = "a bit is not as the rule says";
+        assert!(is_noticed(mistake, due), "{mistake:?}");
+    }
+}
+
+#[test]
+fn histories_notice_a_wrong_call_on_the_map() {
+    assert!(is_noticed(Mistake::CountsPastTheCount, "suspects of"));
+    assert!(is_noticed(Mistake::TakesLongerMaps, "a start for"));
+}
+
+/// A call that is done but leaves a sector other than whole is noticed by the
+/// second claim, though its bit is as the rule says. A mend that does so is
+/// noticed earlier, by a mend of a copy.
+#[test]
+fn histories_notice_a_clear_bit_that_is_not_whole() {
+    for kind in [Kind::Blank, Kind::Third] {
+        let mistake = Mistake::WritesNoImage(kind);
+        assert!(is_noticed(mistake, "is clear, and not whole"), "{kind:?}");
     }
 }

@@ -3,6 +3,7 @@
 use reference::answer::{answer_number, Place, Refusal, Verdict};
 use reference::collide::blind_pair;
 use reference::field::{to_block, to_bytes};
+use reference::map;
 use reference::rng::Rng;
 use reference::seal::sealed;
 use reference::volume::{
@@ -22,6 +23,7 @@ struct Volume {
     local: Vec<u8>,
     tag: Vec<u8>,
     remote: Vec<u8>,
+    map: Vec<u64>,
 }
 
 impl Volume {
@@ -34,6 +36,7 @@ impl Volume {
             local: rng.bytes(size * count),
             tag: rng.bytes(16 * count),
             remote: rng.bytes(size * count),
+            map: (0..map::words(count)).map(|_| rng.next_u64()).collect(),
         }
     }
 
@@ -47,10 +50,8 @@ impl Volume {
 
     fn blank(&mut self, number: usize) -> Result<(), Refusal> {
         let (local, tag, remote) = (&mut self.local, &mut self.tag, &mut self.remote);
-        let (key, volume) = (&self.key, self.volume);
-        blank(
-            key, volume, self.size, self.count, local, tag, remote, number,
-        )
+        let (key, v, s, n) = (&self.key, self.volume, self.size, self.count);
+        blank(key, v, s, n, local, tag, remote, &mut self.map, number)
     }
 
     fn first(&mut self, number: usize, plaintext: &[u8]) -> Result<(), Refusal> {
@@ -62,6 +63,7 @@ impl Volume {
             &mut self.local,
             &self.tag,
             &self.remote,
+            &mut self.map,
             number,
             plaintext,
         )
@@ -76,6 +78,7 @@ impl Volume {
             &self.local,
             &mut self.tag,
             &self.remote,
+            &mut self.map,
             number,
             plaintext,
         )
@@ -90,12 +93,13 @@ impl Volume {
             &self.local,
             &self.tag,
             &mut self.remote,
+            &mut self.map,
             number,
             plaintext,
         )
     }
 
-    fn read(&self, number: usize, output: &mut [u8]) -> Result<Verdict, Refusal> {
+    fn read(&mut self, number: usize, output: &mut [u8]) -> Result<Verdict, Refusal> {
         read(
             &self.key,
             self.volume,
@@ -104,13 +108,14 @@ impl Volume {
             &self.local,
             &self.tag,
             &self.remote,
+            &mut self.map,
             number,
             output,
         )
     }
 
     /// A read with an output of the right size.
-    fn plain(&self, number: usize) -> Result<(Verdict, Vec<u8>), Refusal> {
+    fn plain(&mut self, number: usize) -> Result<(Verdict, Vec<u8>), Refusal> {
         let mut output = vec![FILL; self.size];
         let verdict = self.read(number, &mut output)?;
         Ok((verdict, output))
@@ -118,10 +123,8 @@ impl Volume {
 
     fn mend(&mut self, number: usize) -> Result<Verdict, Refusal> {
         let (local, tag, remote) = (&mut self.local, &mut self.tag, &mut self.remote);
-        let (key, volume) = (&self.key, self.volume);
-        mend(
-            key, volume, self.size, self.count, local, tag, remote, number,
-        )
+        let (key, v, s, n) = (&self.key, self.volume, self.size, self.count);
+        mend(key, v, s, n, local, tag, remote, &mut self.map, number)
     }
 
     fn survey(&self, list: &mut [u32]) -> Result<Survey, Refusal> {
@@ -133,6 +136,7 @@ impl Volume {
             &self.local,
             &self.tag,
             &self.remote,
+            &self.map,
             list,
         )
     }
@@ -155,6 +159,19 @@ impl Volume {
         answers
     }
 
+    /// Writes one place of a sector, and sets its bit or clears it.
+    fn put(&mut self, number: usize, place: Place, bytes: &[u8], suspect: bool) {
+        self.place_mut(number, place).copy_from_slice(bytes);
+        self.mark(number, suspect);
+    }
+
+    /// Sets or clears a sector's bit in the map.
+    fn mark(&mut self, number: usize, suspect: bool) {
+        let bit = 1 << (number % 64);
+        self.map[number / 64] &= !bit;
+        self.map[number / 64] |= if suspect { bit } else { 0 };
+    }
+
     fn place_mut(&mut self, number: usize, place: Place) -> &mut [u8] {
         match place {
             Place::Local => &mut self.local[part(number, self.size)],
@@ -171,11 +188,9 @@ fn blank_seals_zeros() {
         let mut volume = Volume::random(&mut rng, size, 3);
         let mut due = volume.clone();
         let sealed = sealed(&due.key, 0, 1, &vec![0; size]);
-        due.place_mut(1, Place::Local)
-            .copy_from_slice(&sealed.local);
-        due.place_mut(1, Place::Tag).copy_from_slice(&sealed.tag);
-        due.place_mut(1, Place::Remote)
-            .copy_from_slice(&sealed.remote);
+        for place in Place::ALL {
+            due.put(1, place, sealed.place(place), false);
+        }
         assert_eq!(volume.blank(1), Ok(()));
         assert_eq!(volume, due);
         assert_eq!(volume.plain(1), Ok((Verdict::Whole, vec![0; size])));
@@ -199,8 +214,7 @@ fn stages_write_one_place_each() {
         assert_eq!(volume, due);
 
         assert_eq!(volume.first(2, &plaintext), Ok(()));
-        due.place_mut(2, Place::Local)
-            .copy_from_slice(&sealed.local);
+        due.put(2, Place::Local, &sealed.local, true);
         assert_eq!(volume, due);
         let found = Ok((Verdict::Doubtful(Place::Local), zeros.clone()));
         assert_eq!(volume.plain(2), found);
@@ -210,7 +224,7 @@ fn stages_write_one_place_each() {
         assert_eq!(volume, due);
 
         assert_eq!(volume.second(2, &plaintext), Ok(()));
-        due.place_mut(2, Place::Tag).copy_from_slice(&sealed.tag);
+        due.put(2, Place::Tag, &sealed.tag, true);
         assert_eq!(volume, due);
         let found = Ok((Verdict::Doubtful(Place::Remote), plaintext.clone()));
         assert_eq!(volume.plain(2), found);
@@ -218,8 +232,7 @@ fn stages_write_one_place_each() {
         assert_eq!(volume.third(2, &zeros), Err(Refusal::WrongStage));
 
         assert_eq!(volume.third(2, &plaintext), Ok(()));
-        due.place_mut(2, Place::Remote)
-            .copy_from_slice(&sealed.remote);
+        due.put(2, Place::Remote, &sealed.remote, false);
         assert_eq!(volume, due);
         assert_eq!(volume.plain(2), Ok((Verdict::Whole, plaintext.clone())));
     }
@@ -297,16 +310,21 @@ fn one_of_each(rng: &mut Rng) -> Volume {
 #[test]
 fn read_and_mend_refuse_lost_and_clashing() {
     let mut volume = one_of_each(&mut Rng::new(33));
-    let before = volume.clone();
+    let mut due = volume.clone();
     for (number, refusal) in [(2, Refusal::Clashing), (3, Refusal::Lost)] {
         let mut output = [FILL; 32];
-        assert_eq!(volume.read(number, &mut output), Err(refusal));
-        assert_eq!(output, [FILL; 32]);
-        assert_eq!(volume.mend(number), Err(refusal));
         let plaintext = [0; 32];
         assert_eq!(volume.first(number, &plaintext), Err(Refusal::WrongStage));
+        assert_eq!(volume, due);
+        // A refused read or mend changes the sector's bit, and nothing else.
+        due.mark(number, true);
+        assert_eq!(volume.read(number, &mut output), Err(refusal));
+        assert_eq!(output, [FILL; 32]);
+        assert_eq!(volume, due);
+        volume.mark(number, false);
+        assert_eq!(volume.mend(number), Err(refusal));
+        assert_eq!(volume, due);
     }
-    assert_eq!(volume, before);
 }
 
 #[test]
@@ -454,6 +472,15 @@ fn refusals_in_order() {
         assert_eq!(bad_size.survey(&mut []), Err(Refusal::SectorSize));
     }
 
+    for words in [0, 2, 3] {
+        let mut bad_map = good.clone();
+        bad_map.map.resize(words, 7);
+        assert_eq!(bad_map.refusals(0, 32), [13; 6]);
+        assert_eq!(bad_map.refusals(9, 31), [13; 6]);
+        assert_eq!(bad_map.survey(&mut [0; 3]), Err(Refusal::MapLength));
+        assert_eq!(bad_map.survey(&mut []), Err(Refusal::MapLength));
+    }
+
     for number in [3, 4, usize::MAX] {
         assert_eq!(good.refusals(number, 31), [9; 6]);
     }
@@ -490,10 +517,13 @@ fn refusal_8_on_count_and_images() {
             bad.push(volume);
         }
     }
-    for volume in bad {
-        assert_eq!(volume.refusals(usize::MAX, 31), [8; 6]);
-        assert_eq!(volume.refusals(0, 32), [8; 6]);
-        assert_eq!(volume.survey(&mut []), Err(Refusal::VolumeShape));
+    for mut volume in bad {
+        for words in [1, 0, 2] {
+            volume.map.resize(words, 7);
+            assert_eq!(volume.refusals(usize::MAX, 31), [8; 6]);
+            assert_eq!(volume.refusals(0, 32), [8; 6]);
+            assert_eq!(volume.survey(&mut []), Err(Refusal::VolumeShape));
+        }
     }
 }
 
@@ -527,15 +557,17 @@ impl Volume {
     }
 }
 
-/// Reads, mends and stages are refused and change nothing, and a survey counts
-/// all sectors lost.
+/// Reads, mends and stages are refused and change nothing but that reads and mends
+/// make all sectors suspect, and a survey counts them all lost.
 fn insist_on_foreign(volume: &Volume, plaintexts: &[Vec<u8>]) {
     let mut copy = volume.clone();
+    let mut due = volume.clone();
     for (number, plaintext) in plaintexts.iter().enumerate() {
         let mut output = vec![FILL; volume.size];
         assert_eq!(copy.read(number, &mut output), Err(Refusal::Lost));
         assert_eq!(output, vec![FILL; volume.size]);
         assert_eq!(copy.mend(number), Err(Refusal::Lost));
+        due.mark(number, true);
         for text in [plaintext, &vec![0; volume.size]] {
             assert_eq!(copy.first(number, text), Err(Refusal::WrongStage));
             assert_eq!(copy.second(number, text), Err(Refusal::WrongStage));
@@ -544,7 +576,7 @@ fn insist_on_foreign(volume: &Volume, plaintexts: &[Vec<u8>]) {
     }
     let all: Vec<u32> = (0..volume.count as u32).collect();
     assert_eq!(copy.surveyed(), ([0, 0, 0, volume.count], all));
-    assert_eq!(copy, *volume);
+    assert_eq!(copy, due);
 }
 
 #[test]
@@ -652,6 +684,7 @@ fn refusals_in_order_under_a_number() {
         assert_eq!(with(|v| v.key = vec![1; 31]).refusals(9, 31), [1; 6]);
         assert_eq!(with(|v| v.size = 31).refusals(9, 31), [2; 6]);
         assert_eq!(with(|v| v.count += 1).refusals(9, 31), [8; 6]);
+        assert_eq!(with(|v| v.map.push(0)).refusals(9, 31), [13; 6]);
         assert_eq!(volume.refusals(4, 31), [9; 6]);
         let answers = volume.clone().refusals_without_blank_and_mend(0, 31);
         assert_eq!(answers, [3; 4]);

@@ -1,4 +1,4 @@
-//! The twelve calls over one record of arguments, each made by the library and
+//! The fourteen calls over one record of arguments, each made by the library and
 //! by the independent implementation on copies of the same bytes.
 
 // Each test program makes some of the calls.
@@ -8,7 +8,7 @@ use std::collections::{BTreeMap, BTreeSet};
 
 use reference::answer::answer_number;
 use reference::rng::Rng;
-use reference::{seal, volume};
+use reference::{map, seal, volume};
 
 /// What a byte of an output holds before a call, so that a write shows.
 pub const FILL: u8 = 0x5a;
@@ -27,6 +27,8 @@ pub enum Call {
     Read,
     Mend,
     Survey,
+    Start,
+    Count,
 }
 
 /// What the calls take; each takes its part of it. The lists of a copy end where
@@ -47,10 +49,13 @@ pub struct Arguments {
     pub local: Vec<u8>,
     pub tag: Vec<u8>,
     pub remote: Vec<u8>,
+    pub map: Vec<u64>,
     pub out: Vec<u8>,
     pub list: Vec<u32>,
     /// Whole, doubtful, clashing, lost, health.
     pub counts: Box<[u64; 5]>,
+    /// The number of suspects.
+    pub suspects: Box<u64>,
 }
 
 impl Arguments {
@@ -69,9 +74,11 @@ impl Arguments {
             local: vec![],
             tag: vec![],
             remote: vec![],
+            map: vec![],
             out: vec![],
             list: vec![],
             counts: Box::new([u64::from(FILL); 5]),
+            suspects: Box::new(u64::from(FILL)),
         }
     }
 
@@ -87,6 +94,7 @@ impl Arguments {
             ("local", self.local.len()),
             ("tag", self.tag.len()),
             ("remote", self.remote.len()),
+            ("map", self.map.len()),
             ("out", self.out.len()),
             ("list", self.list.len()),
         ];
@@ -95,6 +103,7 @@ impl Arguments {
 }
 
 impl Call {
+    /// On a volume, or on its map alone.
     pub fn is_on_volume(self) -> bool {
         self >= Call::Blank
     }
@@ -116,20 +125,22 @@ impl Call {
         let (s, n, i) = (lent.s, lent.n, lent.number);
         let (plain, sector, out) = (&lent.plain, &lent.sector, &mut lent.out);
         let (local, tag, remote) = (&mut lent.local, &mut lent.tag, &mut lent.remote);
-        let (list, counts) = (&mut lent.list, &mut lent.counts);
+        let (map, list, counts) = (&mut lent.map, &mut lent.list, &mut lent.counts);
         match self {
             Call::Seal => linked::seal(key, v, address, plain, local, tag, remote),
             Call::Judge => linked::judge(key, v, address, local, tag, remote, out),
             Call::Open => linked::open(key, v, address, side, sector, tag, out),
             Call::Rebuild => linked::rebuild(key, v, address, side, sector, tag, out),
             Call::Combine => linked::combine(local, remote, out),
-            Call::Blank => linked::blank(key, v, s, n, i, local, tag, remote),
-            Call::First => linked::first_stage(key, v, s, n, i, plain, local, tag, remote),
-            Call::Second => linked::second_stage(key, v, s, n, i, plain, local, tag, remote),
-            Call::Third => linked::third_stage(key, v, s, n, i, plain, local, tag, remote),
-            Call::Read => linked::read(key, v, s, n, i, local, tag, remote, out),
-            Call::Mend => linked::mend(key, v, s, n, i, local, tag, remote),
-            Call::Survey => linked::survey(key, v, s, n, local, tag, remote, list, counts),
+            Call::Blank => linked::blank(key, v, s, n, i, local, tag, remote, map),
+            Call::First => linked::first_stage(key, v, s, n, i, plain, local, tag, remote, map),
+            Call::Second => linked::second_stage(key, v, s, n, i, plain, local, tag, remote, map),
+            Call::Third => linked::third_stage(key, v, s, n, i, plain, local, tag, remote, map),
+            Call::Read => linked::read(key, v, s, n, i, local, tag, remote, map, out),
+            Call::Mend => linked::mend(key, v, s, n, i, local, tag, remote, map),
+            Call::Survey => linked::survey(key, v, s, n, local, tag, remote, map, list, counts),
+            Call::Start => linked::start_map(n, map),
+            Call::Count => linked::count_suspects_without_wrapper(n, map, &mut lent.suspects),
         }
     }
 
@@ -140,25 +151,30 @@ impl Call {
         let (s, n, i) = (lent.s, lent.n, lent.number);
         let (plain, sector, out) = (&lent.plain, &lent.sector, &mut lent.out);
         let (local, tag, remote) = (&mut lent.local, &mut lent.tag, &mut lent.remote);
+        let map = &mut lent.map;
         u32::from(match self {
             Call::Seal => answer_number(&seal::seal(key, v, address, plain, local, remote, tag)),
             Call::Judge => answer_number(&seal::judge(key, v, address, local, tag, remote, out)),
             Call::Open => answer_number(&seal::open(key, v, address, side, sector, tag, out)),
             Call::Rebuild => answer_number(&seal::rebuild(key, v, address, side, sector, tag, out)),
             Call::Combine => answer_number(&seal::combine(local, remote, out)),
-            Call::Blank => answer_number(&volume::blank(key, v, s, n, local, tag, remote, i)),
+            Call::Blank => answer_number(&volume::blank(key, v, s, n, local, tag, remote, map, i)),
             Call::First => answer_number(&volume::first_stage(
-                key, v, s, n, local, tag, remote, i, plain,
+                key, v, s, n, local, tag, remote, map, i, plain,
             )),
             Call::Second => answer_number(&volume::second_stage(
-                key, v, s, n, local, tag, remote, i, plain,
+                key, v, s, n, local, tag, remote, map, i, plain,
             )),
             Call::Third => answer_number(&volume::third_stage(
-                key, v, s, n, local, tag, remote, i, plain,
+                key, v, s, n, local, tag, remote, map, i, plain,
             )),
-            Call::Read => answer_number(&volume::read(key, v, s, n, local, tag, remote, i, out)),
-            Call::Mend => answer_number(&volume::mend(key, v, s, n, local, tag, remote, i)),
+            Call::Read => {
+                answer_number(&volume::read(key, v, s, n, local, tag, remote, map, i, out))
+            }
+            Call::Mend => answer_number(&volume::mend(key, v, s, n, local, tag, remote, map, i)),
             Call::Survey => survey_by_reference(lent),
+            Call::Start => answer_number(&map::start(n, map)),
+            Call::Count => count_by_reference(lent),
         })
     }
 }
@@ -174,6 +190,7 @@ fn survey_by_reference(lent: &mut Arguments) -> u8 {
         local,
         tag,
         remote,
+        &lent.map,
         &mut lent.list,
     ) {
         Ok(found) => {
@@ -182,6 +199,12 @@ fn survey_by_reference(lent: &mut Arguments) -> u8 {
         }
         Err(refusal) => refusal.number(),
     }
+}
+
+/// Writes the number of suspects where the library writes it.
+fn count_by_reference(lent: &mut Arguments) -> u8 {
+    let found = map::count_suspects(lent.n, &lent.map);
+    answer_number(&found.map(|suspects| *lent.suspects = suspects))
 }
 
 /// How often each answer came from each call.
@@ -216,6 +239,10 @@ impl Tally {
 pub fn any_volume(rng: &mut Rng) -> u64 {
     let random = rng.next_u64();
     *rng.pick(&[0, 1, u64::MAX, random])
+}
+
+pub fn random_words(rng: &mut Rng, words: usize) -> Vec<u64> {
+    (0..words).map(|_| rng.next_u64()).collect()
 }
 
 /// How many rounds: the default, or what the variable MIRROR_ROUNDS says.
