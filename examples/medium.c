@@ -144,7 +144,7 @@ static uint32_t mend_sector(size_t number)
 
 static void expect_suspects(uint64_t due)
 {
-    uint64_t suspects;
+    uint64_t suspects = 0;
     expect("count the suspects", mirror_volume_count_suspects(&volume, &suspects), MIRROR_DONE);
     need(suspects == due, "another number of sectors is suspect");
     printf("%lu of %d sectors are suspect\n", (unsigned long)suspects, COUNT);

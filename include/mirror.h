@@ -74,7 +74,8 @@
  * (measured, not proved). Calls may run at once in several threads if no buffer that one of them may write is lent to another. A call on a
  * volume is lent whole images, so on one volume only reads and surveys may run at once. Every call on one sector is lent the map to write,
  * reads too: a read may run beside another read or a survey only if no other call is lent its map; else take a lock. Such a map says only
- * what its own reads have met. Surveys and mirror_count_suspects only read the map: among themselves they may share one.
+ * what its own reads have met. Surveys and mirror_count_suspects only read the map: among themselves they may share one. Whoever looks at
+ * a map that another thread's call is lent to write, also by mirror_is_suspect, needs the lock too.
  *
  * SECRETS. What an attacker can guess, forge or measure is no claim of this library; SECURITY.md in the source tree says more.
  *   - Local and remote sector together give the plaintext WITHOUT the key (mirror_combine): whoever may read both needs no key.

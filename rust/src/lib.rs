@@ -146,8 +146,8 @@
 //!   volume's number, one size and the count of the start, and nothing else wrote
 //!   the images or the map.
 //! - Damage that no call has met shows nowhere. A survey finds it, and sets no bit.
-//! - After a power cut, start the map anew: a call that was cut may have left its
-//!   sector in doubt, and no answer has set the bit.
+//! - A bit changes when the call answers, before the caller has written anything
+//!   out. So after a power cut, or where writing out has failed, start the map anew.
 //!
 //! # Power cuts
 //!

@@ -349,9 +349,9 @@ impl<I: AsRef<[u8]> + AsMut<[u8]>, M: AsMut<[u64]>> Volume<'_, I, M> {
         let remote = self.remote.as_mut();
         let map = self.map.as_mut();
         // SAFETY: each image and the map are asked for what they hold once, since a
-        // type may give something else when asked again. Each pointer and length is that of one slice,
-        // which lives through the call; those that are written are borrowed
-        // alone, so none overlaps.
+        // type may give something else when asked again. Each pointer and length
+        // is that of one slice, which lives through the call; those that are
+        // written are borrowed alone, so none overlaps.
         done(unsafe {
             ffi::mirror_blank(
                 self.key.as_ptr(),
@@ -572,6 +572,7 @@ impl Survey {
     ///
     /// let key = [7; KEY_BYTES];
     /// let mut volume = Volume::new(&key, 1, 16, 4, [0; 64], [0; 64], [0; 64], [0]);
+    /// volume.start_map()?;
     /// for number in [0, 1, 3] {
     ///     volume.blank(number)?;
     /// }

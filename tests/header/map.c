@@ -226,10 +226,13 @@ static void marks(size_t i)
 static void lengths(void)
 {
     fill(0x5a);
+    memset(longer, 0x5a, (length + 1) * sizeof *longer);
     answers(MIRROR_REFUSED_MAP_LENGTH, mirror_blank(NAMED, 0, IMAGES, map, length - 1), __LINE__, "mirror_blank");
     answers(MIRROR_REFUSED_MAP_LENGTH, mirror_blank(NAMED, 0, IMAGES, longer, length + 1), __LINE__, "mirror_blank");
     answers(MIRROR_REFUSED_SECTOR_NUMBER, mirror_blank(NAMED, n, IMAGES, MAP), __LINE__, "mirror_blank");
     as_due(__LINE__, "a refused mirror_blank");
+    check(memcmp(longer, map, length * sizeof *map) == 0 && longer[length] == map[0], __LINE__, "a refused mirror_blank",
+          "changes a map that is too long");
 }
 
 /* From a started map on, each sector that is blanked is one suspect less. */

@@ -65,7 +65,9 @@ macro_rules! calls_of {
                 Call::Read => {
                     calls::read(key, volume, s, n, number, local, tags, remote, $($map,)? out)
                 }
-                Call::Mend => calls::mend(key, volume, s, n, number, local, tags, remote $(, $map)?),
+                Call::Mend => {
+                    calls::mend(key, volume, s, n, number, local, tags, remote $(, $map)?)
+                }
                 Call::Survey => {
                     let (list, counts) = (&mut v.list, &mut v.counts);
                     calls::survey(key, volume, s, n, local, tags, remote, $($map,)? list, counts)

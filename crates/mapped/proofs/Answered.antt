@@ -72,13 +72,16 @@ mended k e = e ∙ ap (λ (x : Mark). cond (isFinished k) x (lostOrClashing k)) 
 
 -- ---- a read or a mend that is refused
 
+same-refusal : {f g : Refusal} {x : Mark} → f ≡ g → x ≡ lostOrClashing (refusalNumber g) → x ≡ lostOrClashing (refusalNumber f)
+same-refusal e h = h ∙ ap (λ (y : Refusal). lostOrClashing (refusalNumber y)) (sym e)
+
 pub lost-sets : {f : Refusal} → f ≡ Lost → Sets ≡ lostOrClashing (refusalNumber f)
 unfolding lostOrClashing
-lost-sets e = ap (λ (x : Refusal). lostOrClashing (refusalNumber x)) (sym e)
+lost-sets e = same-refusal e refl
 
 pub clashing-sets : {f : Refusal} → f ≡ Clashing → Sets ≡ lostOrClashing (refusalNumber f)
 unfolding lostOrClashing
-clashing-sets e = ap (λ (x : Refusal). lostOrClashing (refusalNumber x)) (sym e)
+clashing-sets e = same-refusal e refl
 
 pub others-keep : {f : Refusal} → (f ≡ Lost → ⊥) → (f ≡ Clashing → ⊥) → Keeps ≡ lostOrClashing (refusalNumber f)
 unfolding lostOrClashing
@@ -87,9 +90,6 @@ others-keep {f} p q =
 
 -- ---- the map
 
-module _ {x : Mark} (i : ℕ) (m : List ℕ) {after : List ℕ} where
-  pub clears : x ≡ Clears → after ≡ mark i false m → after ≡ marked x i m
-  clears e h = h ∙ ap (λ (y : Mark). marked y i m) (sym e)
-
-  pub sets : x ≡ Sets → after ≡ mark i true m → after ≡ marked x i m
-  sets e h = h ∙ ap (λ (y : Mark). marked y i m) (sym e)
+-- the map as the mark x has it, which is y
+pub as-marked : (i : ℕ) (m : List ℕ) {x y : Mark} {after : List ℕ} → x ≡ y → after ≡ marked y i m → after ≡ marked x i m
+as-marked i m e h = h ∙ ap (λ (z : Mark). marked z i m) (sym e)

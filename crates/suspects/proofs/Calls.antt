@@ -106,7 +106,7 @@ module _ (seals : Schemes) (v : Triple) (a : Args) (c : Call) (m : List ℕ) whe
   words-after h = subst Words (sym (leaves-marked .by-mark)) (words-marked (marks c (mapOutcome seals v a c m .0)) (a .number) m h)
 
   -- a call that `mapRefusal` refuses with a right map is refused without it
-  pub early-refused : length m ≡ mapWords (a .volume .count) → {k : ℕ} → mapRefusal v a m ≡ some k → firstOf (early v a c) ≡ some k
+  early-refused : length m ≡ mapWords (a .volume .count) → {k : ℕ} → mapRefusal v a m ≡ some k → firstOf (early v a c) ≡ some k
   unfolding early
   early-refused w e = first-some (lengths a c) (volumeOnly v (a .volume) ++ nine a) (sym (right-words v (a .volume) m (nine a) w) ∙ e)
 

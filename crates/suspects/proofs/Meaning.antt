@@ -53,6 +53,9 @@ module _ (v : Triple) (a : Args) (m : List ℕ) (w : length m ≡ mapWords (a .v
       first-sets = λ P p Q i. bit-call (first P) (means .first-writes P p Q i);
       second-sets = λ P p f. bit-call (second P) (means .second-writes P p f);
       third-clears = λ P p f. bit-call (third P) (means .third-writes P p f);
+      first-keeps = λ P p n. bit-call (first P) (means .first-refuses P p .1 n);
+      second-keeps = λ P p n. bit-call (second P) (means .second-refuses P p .1 n);
+      third-keeps = λ P p n. bit-call (third P) (means .third-refuses P p .1 n);
     }
 
 pub marks-mean : AllMarksMean

@@ -1,7 +1,7 @@
 -- What a call leaves of its sector's bit, by which plaintexts fit which places of the sector (document 01, "The verdict", with change request
--- S-4), and not by the number of its answer. One statement for every key, volume's number, s, n, sector's number, map and images of any
--- bytes, of calls that no refusal before 6 or 10 turns away; proved as `marks-mean`. `mapOutcome` and `mapReadOutcome` are the definitions
--- that the calls' contracts cite.
+-- S-4), and not by the number of its answer. One statement for every key, volume's number, s, n, sector's number, map of as many words as n
+-- needs and images of any bytes, of calls that no refusal before 6 or 10 turns away; proved as `marks-mean`. `mapOutcome` and
+-- `mapReadOutcome` are the definitions that the calls' contracts cite.
 use mathlib.Core.Path.{_≡_}
 use mathlib.Core.Bool.{Bool, true, false}
 use mathlib.Core.List.{List}
@@ -41,6 +41,10 @@ module _ (v : Triple) (a : Args) (m : List ℕ) where
     pub first-sets : (P : List ℕ) → Passes v a (first P) → (Q : List ℕ) → Is v a (whole Q) → bitAfter (first P) ≡ true
     pub second-sets : (P : List ℕ) → Passes v a (second P) → FitsAt v a local P → bitAfter (second P) ≡ true
     pub third-clears : (P : List ℕ) → Passes v a (third P) → FitsAt v a local P × FitsAt v a tag P → bitAfter (third P) ≡ false
+    -- one that is not due leaves it
+    pub first-keeps : (P : List ℕ) → Passes v a (first P) → ((Q : List ℕ) → Is v a (whole Q) → ⊥) → bitAfter (first P) ≡ bit (a .number) m
+    pub second-keeps : (P : List ℕ) → Passes v a (second P) → (FitsAt v a local P → ⊥) → bitAfter (second P) ≡ bit (a .number) m
+    pub third-keeps : (P : List ℕ) → Passes v a (third P) → (FitsAt v a local P × FitsAt v a tag P → ⊥) → bitAfter (third P) ≡ bit (a .number) m
 
 abbrev pub AllMarksMean : Type 0
 AllMarksMean = (v : Triple) → AnyBytes v → (a : Args) (m : List ℕ) → length m ≡ mapWords (a .volume .count) → MarksMean v a m

@@ -1,4 +1,4 @@
-use Rattle.mapped.proofs.Answered.{clears, sets}
+use Rattle.mapped.proofs.Answered.{as-marked}
 use borrow.Author.Needs.{needs}
 use Rattle.mapped.proofs.put_mark.Statement.{statement}
 use Rattle.mapped.proofs.put_mark.Tie as tie
@@ -22,13 +22,13 @@ same-length : tie.Need-same-length
 same-length c = search needs
 
 returns : tie.Need-returns
-returns c = search clears
+returns c = search as-marked
 
 same-length-2 : tie.Need-same-length-2
 same-length-2 c = search needs
 
 returns-2 : tie.Need-returns-2
-returns-2 c = search sets
+returns-2 c = search as-marked
 
 returns-3 : tie.Need-returns-3
 returns-3 c = search needs
