@@ -136,6 +136,14 @@ every-so : (P Q : ℕ → Type 0) → ((k : ℕ) → P k → Q k) → (rs : List
 every-so P Q f [] h = tt
 every-so P Q f (r ∷ rs) h = (f (r .number) (h .0), every-so P Q f rs (h .1))
 
+-- ---- the numbers that mark it
+
+-- 6 and 7 of a read or a mend
+pub lost-or-clashing-sets : (c : Call) → Judges c → (marks c 6 ≡ Sets) × (marks c 7 ≡ Sets)
+unfolding isFinished lostOrClashing
+lost-or-clashing-sets c (inl e) = subst (λ (x : Call). (marks x 6 ≡ Sets) × (marks x 7 ≡ Sets)) (sym e) (refl, refl)
+lost-or-clashing-sets c (inr (o, e)) = subst (λ (x : Call). (marks x 6 ≡ Sets) × (marks x 7 ≡ Sets)) (sym e) (refl, refl)
+
 -- ---- the numbers that leave the map alone
 
 refusing-marks : (c : Call) (k : ℕ) → isFinished k ≡ false → marks c k ≡ refusing c k
@@ -175,12 +183,6 @@ lengths-quiet a (read o) = ((refl, refl), tt)
 
 pub before-keeps : (v : Triple) (a : Args) (m : List ℕ) (c : Call) (k : ℕ) → mapRefusal v a m ≡ some k → marks c k ≡ Keeps
 before-keeps v a m c k e = quiet-keeps c k (every-first Quiet (firstRules v a m) (before-quiet v a m) k e)
-
--- 6 and 7 of a read or a mend
-pub lost-or-clashing-sets : (c : Call) → Judges c → (marks c 6 ≡ Sets) × (marks c 7 ≡ Sets)
-unfolding isFinished lostOrClashing
-lost-or-clashing-sets c (inl e) = subst (λ (x : Call). (marks x 6 ≡ Sets) × (marks x 7 ≡ Sets)) (sym e) (refl, refl)
-lost-or-clashing-sets c (inr (o, e)) = subst (λ (x : Call). (marks x 6 ≡ Sets) × (marks x 7 ≡ Sets)) (sym e) (refl, refl)
 
 -- a refusal keeps the map, or it is one of these
 abbrev pub Ends : Call → ℕ → Type 0
