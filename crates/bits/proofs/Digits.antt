@@ -104,7 +104,7 @@ digit-shift (suc k) w =
     ∙ ap (λ (x : ℕ). x % 2) (shr-shr w 1 k ∙ ap (λ (j : ℕ). w / 2 ^ j) (omega arith))
 
 -- `1 << k`
-one-shl : (k : ℕ) → k < 64 → (1 * 2 ^ k) % 2 ^ 64 ≡ 2 ^ k
+pub one-shl : (k : ℕ) → k < 64 → (1 * 2 ^ k) % 2 ^ 64 ≡ 2 ^ k
 one-shl k h = shl-exact {a = 1} 1 k 64 (lit< tt) (omega arith) ∙ omega arith
 
 -- `w | 1 << k`

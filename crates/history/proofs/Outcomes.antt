@@ -33,7 +33,7 @@ read-by clashing out = refl
 module _ (seals : Schemes) (v : Triple) (a : Args) where
   -- ---- refused
 
-  outcome-refused : (c : Call) {n : ℕ} → refusal seals v a c ≡ some n → outcome seals v a c ≡ (n, v)
+  pub outcome-refused : (c : Call) {n : ℕ} → refusal seals v a c ≡ some n → outcome seals v a c ≡ (n, v)
   unfolding outcome
   outcome-refused c {n} e = ap₂ (λ (r : Answer) (w : Triple). (answerNumber r, w)) (answer-refused seals v a c n e) (after-refused seals v a c n e)
 

@@ -4,14 +4,14 @@ use mathlib.Core.List.{List, _∷_}
 use Prim.Native.Nat.{ℕ, zero, suc, _+_, _-_, _*_, _/_, _%_, _^_, _≤_, _<_}
 use native.Mathlib.Nat.{pow-suc, mod-lt, lt-of-le-of-lt}
 use native.Mathlib.Omega.{arith}
-use lib.Dec.{eqb, ltb, lit<, leb·suc-zero, leb·suc-suc}
-use lib.Pow.{shl-exact, pow-pos, mod-pow-add}
+use lib.Dec.{eqb, ltb, leb·suc-zero, leb·suc-suc}
+use lib.Pow.{pow-pos, mod-pow-add}
 use lib.Bits.{bitAnd, and-mask, and-le-l}
 use lib.Count.{ones, onesIn, ones-cat, ones-le}
 use lib.ListN.{getD}
 use borrow.Author.Tests.{eq-eqb, lt-ltb}
 use Rattle.bits.specs.Bits.{digit, bit}
-use Rattle.bits.proofs.Digits.{digit-lt, digit-zero, digit-shift}
+use Rattle.bits.proofs.Digits.{digit-lt, digit-zero, digit-shift, one-shl}
 
 -- ---- the k lowest bits set
 
@@ -29,9 +29,6 @@ digit-low (suc k) (suc j) =
     ap (λ (x : ℕ). eqb (digit j x) 1) e ∙ digit-low k j ∙ sym (leb·suc-suc (suc j) k)
 
 -- `1 << k`
-one-shl : (k : ℕ) → k < 64 → (1 * 2 ^ k) % 2 ^ 64 ≡ 2 ^ k
-one-shl k h = shl-exact {a = 1} 1 k 64 (lit< tt) (omega arith) ∙ omega arith
-
 pub one-shl-pos : (k : ℕ) → k < 64 → 1 ≤ (1 * 2 ^ k) % 2 ^ 64
 one-shl-pos k h = subst (λ (x : ℕ). 1 ≤ x) (sym (one-shl k h)) (pow-pos k)
 

@@ -1,5 +1,5 @@
 -- The calls with a map: what they answer, and what they leave of images, output and map. Assumes nothing.
-use mathlib.Core.Path.{_≡_, refl, sym, _∙_, ap, ap₂, subst}
+use mathlib.Core.Path.{_≡_, refl, sym, _∙_, ap, subst}
 use mathlib.Core.Bool.{true, cond}
 use mathlib.Core.List.{List, _++_}
 use mathlib.Core.Option.{Option, none, some}
@@ -14,8 +14,7 @@ use Rattle.history.specs.Volume.{Call, Schemes, read, lengths, early, late, res
 use Rattle.report.specs.Survey.{Report, refused, surveyRefusal, surveyOutcome}
 use Rattle.answers.proofs.Rules.{first-none, first-some, none-left, settle-none, settle-some}
 use Rattle.history.proofs.Refusals.{answer-refused}
-use Rattle.history.proofs.Images.{after-refused}
-use Rattle.history.proofs.Outcomes.{outcome-early, read-early, outcome-read}
+use Rattle.history.proofs.Outcomes.{outcome-refused, outcome-early, read-early, outcome-read}
 use Rattle.report.proofs.Refusals as R
 use Rattle.suspects.specs.declared.Mark.{Mark}
 use Rattle.suspects.specs.declared.Mark.the-variants.{Keeps}
@@ -183,11 +182,7 @@ goes-on v a c m e =
     first-none rest (volumeOnly v (a .volume) ++ nine a) (sym (right-words v (a .volume) m (nine a) (map-passed v a m e .0)) ∙ e)
     ∙ sym (first-none rest (firstRules v a m) e)
 
--- what a call leaves that is refused without a map
-
-refused-leaves : (seals : Schemes) (v : Triple) (a : Args) (c : Call) (k : ℕ) → refusal seals v a c ≡ some k → outcome seals v a c ≡ (k, v)
-unfolding outcome
-refused-leaves seals v a c k e = ap₂ (λ (r : Answer) (w : Triple). (answerNumber r, w)) (answer-refused seals v a c k e) (after-refused seals v a c k e)
+-- what a read leaves that is refused without a map
 
 refused-reads : (seals : Schemes) (v : Triple) (a : Args) (out : List ℕ) (k : ℕ) → refusal seals v a (read (length out)) ≡ some k → readOutcome seals v a out ≡ (k, out)
 unfolding readOutcome
@@ -198,7 +193,7 @@ module _ (v : Triple) (a : Args) (m : List ℕ) where
   unfolding mapOutcome
   refuses c k e =
       with-first c (a .number) m (firstRules v a m) (lengths a c ++ late (sealing mirror a) (a .number) (sector v a) c) (outcome mirror v a c) v k e
-      (before-keeps v a m c) (λ f. refused-leaves mirror v a c k (goes-on v a c m f ∙ e))
+      (before-keeps v a m c) (λ f. outcome-refused mirror v a c (goes-on v a c m f ∙ e))
 
   read-refuses : (out : List ℕ) (k : ℕ) → firstOf (callOrder v a (read (length out)) m) ≡ some k
       → mapReadOutcome mirror v a out m ≡ (k, (out, marked (marks (read (length out)) k) (a .number) m))

@@ -1,7 +1,7 @@
 -- Demand 3 for the calls with a map. Assumes nothing.
 use mathlib.Core.Path.{_≡_, refl, sym, _∙_, ap, ap₂, subst}
 use mathlib.Core.Bool.{false}
-use mathlib.Core.List.{List, [], _∷_, _++_}
+use mathlib.Core.List.{List, [], _∷_}
 use mathlib.Core.Option.{Option, none, some}
 use Prim.Native.Nat.{ℕ}
 use lib.ListN.{length}
@@ -9,16 +9,15 @@ use Rattle.bits.specs.Bits.{mark}
 use Rattle.mode.specs.Sealing.{Triple}
 use Rattle.mode.specs.Scheme.{Place, local}
 use Rattle.answers.specs.Rules.{Args, Volume, mapWords}
-use Rattle.answers.proofs.Rules.{none-left}
 use Rattle.verdict.specs.Verdict.{Fits}
-use Rattle.history.specs.Volume.{Call, first, mend, read, lengths, late, sector, sealing, unless, refusal, landed, mirror, outcome, readOutcome}
+use Rattle.history.specs.Volume.{Call, first, mend, read, sector, sealing, unless, refusal, landed, mirror, outcome, readOutcome}
 use Rattle.history.specs.Machine.{Held, gone, kept, Told, Seen, called, State, machine, start}
 use Rattle.history.specs.Power.{Fate, finished, cut, torn, Event, call, damage, Images, isRefused, told, leavesCall, leaves, seen, Allowed, AllAllowed, run, hold}
 use Rattle.history.specs.History.{Proper, ProperRead, Reads, at, own, Sure, Unsure, Found, Promise, Promised}
 use Rattle.history.proofs.Demand3.{demand-3}
-use Rattle.suspects.specs.Marks.{isFinished, marks, marked, firstRules, mapRefusal, mapOutcome, mapReadOutcome}
+use Rattle.suspects.specs.Marks.{isFinished, marks, marked, mapRefusal, mapOutcome, mapReadOutcome}
 use Rattle.suspects.specs.History.{Lent, lentRefusal, leavesLent, lentLeaves, lentSeen, LentAllowed, AllLentAllowed, runLent, holdLent, RightMap, readWith, SureLent, UnsureLent, FoundLent, PromiseLent, PromisedLent, Demand3WithMaps}
-use Rattle.suspects.proofs.Calls.{marked-done, as-without, read-as-without, goes-on, refuses}
+use Rattle.suspects.proofs.Calls.{marked-done, as-without, read-as-without, goes-on, refuses, none-of-order}
 
 -- ---- one call
 
@@ -38,7 +37,7 @@ module _ (vol : Volume) (v : Triple) (a : Args) (c : Call) (m : List ℕ) (f : F
 
   -- one that is accepted with its map is accepted without it, and does the same
   first-passed : lentRefusal v a c m ≡ none → mapRefusal v a m ≡ none
-  first-passed e = none-left (lengths a c ++ late (sealing mirror a) (a .number) (sector v a) c) (firstRules v a m) e
+  first-passed e = none-of-order v a c m e .0
 
   same-refusal : lentRefusal v a c m ≡ none → lentRefusal v a c m ≡ refusal mirror v a c
   same-refusal e = sym (goes-on v a c m (first-passed e))
