@@ -12,7 +12,7 @@ use Rattle.hash.specs.Powers.{keyOf}
 use Rattle.mode.specs.declared.Context.{Context}
 use Rattle.mode.specs.Prepared.{Ready, PreparedFor, schemeOf}
 use Rattle.mode.specs.Scheme.{dcm, scheme}
-use Rattle.mode.specs.Sealing.{Key, tweak, tagBlock, sides, sealedBy, sealed, triple}
+use Rattle.mode.specs.Sealing.{Key, Triple, tweak, tagBlock, sides, sealedBy, sealed, triple}
 use Rattle.verdict.specs.Judging.{verdictOutcome, judgedBy}
 use Rattle.verdict.specs.Verdict.{judge}
 use Rattle.mode.proofs.Preparing.{keyed, ready-context}
@@ -26,10 +26,9 @@ module _ {k : Key} {t w p : List ℕ} {alpha beta : Block} (ctx : Context) (volu
   pub judged-is : (l g r out : List ℕ) {a : ℕ × List ℕ} → judgedBy w p ctx l g r out ≡ a → verdictOutcome (judge (scheme k) (tweak volume address) (triple l g r)) out ≡ a
   judged-is l g r out ea = sym (keyed e (x .2) (λ S T. verdictOutcome (judge S T (triple l g r)) out)) ∙ ea
 
-  -- sealing with the prepared key
-  pub scheme-sealed : (P : List ℕ) → schemeOf w p .sealed (value (ctx .tweak)) P ≡ sealed k volume address P
+  pub sealed-under : (P : List ℕ) {v : Triple} → v ≡ schemeOf w p .sealed (value (ctx .tweak)) P → v ≡ sealed k volume address P
   unfolding sealed scheme dcm
-  scheme-sealed P = keyed e (x .2) (λ S T. S .sealed T P)
+  sealed-under P ev = ev ∙ keyed e (x .2) (λ S T. S .sealed T P)
 
 -- three places that are written make the sealed sector
 pub sealed-is : (w p : List ℕ) (T : ℕ) (P old : List ℕ) → length old ≡ 16 → (g : ℕ) → g ≡ tagBlock (cipherNumber w) (keyOf p) T P

@@ -1,5 +1,5 @@
-use mathlib.Core.Path.{_∙_}
-use Rattle.sector.proofs.Prepared.{ready, scheme-sealed}
+use Rattle.mode.proofs.Preparing.{ready-context}
+use Rattle.sector.proofs.Prepared.{sealed-under}
 use borrow.Author.Needs.{needs}
 use Rattle.sector.proofs.seal_checked.Statement.{statement}
 use Rattle.sector.proofs.seal_checked.Tie as tie
@@ -14,11 +14,7 @@ context-at-requires : tie.Need-context-at-requires
 context-at-requires c κs = search needs
 
 seal-in-requires : tie.Need-seal-in-requires
-seal-in-requires c κs =
-    let s = c .before .before .before .before .before .before .before .before .before .before .before .before .before .before .before .before .before .before in
-    let prepared = c .before .before .before .before .before .before .before .before .before .before .prepare .ensures in
-    let context = c .before .before .before .before .before .before .before .before .context-at .ensures in
-    (ready _ (s .args .volume) (s .args .address) prepared context, s .pre .1)
+seal-in-requires c κs = (search ready-context, search needs)
 
 same-length : tie.Need-same-length
 same-length c = search needs
@@ -30,11 +26,7 @@ same-length-3 : tie.Need-same-length-3
 same-length-3 c = search needs
 
 returns : tie.Need-returns
-returns c =
-    let a = c .before .before .before .before .before .before .before .before .before .before .before .before .before .before .before .before .before .before .before .before .before .before .before .before .before .args in
-    let prepared = c .before .before .before .before .before .before .before .before .before .before .before .before .before .before .before .before .before .prepare .ensures in
-    let context = c .before .before .before .before .before .before .before .before .before .before .before .before .before .before .before .context-at .ensures in
-    c .before .before .before .before .before .before .seal-in .ensures ∙ scheme-sealed _ (a .volume) (a .address) prepared context (a .p .now)
+returns c = search sealed-under
 
 pub seal-checked-spec : {M : Type 1} → statement M
 seal-checked-spec =

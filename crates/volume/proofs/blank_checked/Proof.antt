@@ -14,7 +14,7 @@ context-at-requires : tie.Need-context-at-requires
 context-at-requires c κs = search needs
 
 write-all-requires : tie.Need-write-all-requires
-write-all-requires c κs = search (needs, ready-context)
+write-all-requires c κs = (search ready-context, search needs)
 
 same-length : tie.Need-same-length
 same-length c = search needs
