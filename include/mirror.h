@@ -139,8 +139,8 @@
 #include <stdint.h>
 
 /* The release that this header is of: a number, major*1000000 + minor*1000 + patch, which #if can compare, and the same as a text. */
-#define MIRROR_VERSION 5000
-#define MIRROR_VERSION_TEXT "0.5.0"
+#define MIRROR_VERSION 6000
+#define MIRROR_VERSION_TEXT "0.6.0"
 
 /* Sizes in bytes, and the sectors of the largest volume. */
 #define MIRROR_KEY_BYTES 32

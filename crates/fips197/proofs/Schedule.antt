@@ -38,11 +38,14 @@ unfolding extendBy
 length-extend nk ws zero = sym (add-zero (length ws))
 length-extend nk ws (suc n) = simp (length-append, length-extend nk ws n) (omega arith)
 
-pub rounds-expand : (nk nr : ℕ) (key : List ℕ) → nk ≤ 4 * (nr + 1) → roundsOf (expand nk nr key) ≡ nr
+pub length-expand : (nk nr : ℕ) (key : List ℕ) → nk ≤ 4 * (nr + 1) → length (expand nk nr key) ≡ (nr + 1) * 4
 unfolding expand
-rounds-expand nk nr key h =
+length-expand nk nr key h =
     let more : ℕ = 4 * (nr + 1) - nk in
     omega (arith, length-extend nk (keyWords nk key) more, length-key nk key)
+
+pub rounds-expand : (nk nr : ℕ) (key : List ℕ) → nk ≤ 4 * (nr + 1) → roundsOf (expand nk nr key) ≡ nr
+rounds-expand nk nr key h = omega (arith, length-expand nk nr key h)
 
 -- one word more
 pub extend-turn : (nk i : ℕ) (ws w : List ℕ) (x : ℕ) → 0 < nk → nk ≤ i → i < length w → take i w ≡ extendBy nk ws (i - nk)

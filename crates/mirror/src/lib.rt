@@ -16,12 +16,12 @@ ghost use Rattle.suspects.specs.Marks.{mapOutcome, mapReadOutcome, mapSurveyOut
 ghost use Rattle.mirror.specs.Survey.{numbers, surveyResult};
 ghost use Rattle.mirror.specs.Version.{release};
 
-// The release that the library is of, 0.5.0, so that a program can tell whether it is the one that the program was compiled for.
+// The release that the library is of, 0.6.0, so that a program can tell whether it is the one that the program was compiled for.
 #[no_mangle]
 pub extern "C" fn mirror_version() -> u32
-    ensures { λ r. ⌜ r ≡ release 0 5 0 ⌝ }
+    ensures { λ r. ⌜ r ≡ release 0 6 0 ⌝ }
 {
-    5000
+    6000
 }
 
 fn done_number(d: Done) -> u32
