@@ -1,6 +1,6 @@
 /*
  * A program for tests/check_work, which counts by callgrind how often each call here expands a key and encrypts a block: makes the calls of
- * the library, at three sizes and in each state of a sector that changes what they do, and prints a line for each. What a call needs is
+ * the library, at four sizes and in each state of a sector that changes what they do, and prints a line for each. What a call needs is
  * made before it, and the call alone is made within `measured`: so what is counted from entering that function to leaving it is the call's.
  */
 #include "mirror.h"
@@ -11,7 +11,10 @@
 
 enum { VOLUME = 1, SECTORS = 16, DAMAGED = 4, AT = 3, MOST = MIRROR_SECTOR_BYTES_MAX, TAG = MIRROR_TAG_BYTES };
 
-/* No answers of the library. AS_JUDGED: due is the state's verdict. NOT_DUE: a survey has counted otherwise than the volume was made. */
+/*
+ * No answers of the library. AS_JUDGED: due is the state's verdict. NOT_DUE: a survey has counted otherwise than the volume was made, or
+ * the library is of another release than the header.
+ */
 enum { AS_JUDGED = 0x100, NOT_DUE = 0x101 };
 
 /* The state that a call finds: of sector AT, and from ALONE on of the whole volume. Their order lets a row name several. */
@@ -28,8 +31,8 @@ static const char *const names[STATES] = {"whole",
                                           "one sector",
                                           "16 sectors",
                                           "16 sectors, 4 damaged"};
-static const uint32_t verdicts[] = {MIRROR_WHOLE,        MIRROR_DOUBTFUL_LOCAL, MIRROR_DOUBTFUL_REMOTE,
-                                    MIRROR_DOUBTFUL_TAG, MIRROR_REFUSED_LOST,   MIRROR_REFUSED_CLASHING};
+static const uint32_t verdicts[] = {MIRROR_WHOLE,        MIRROR_DOUBTFUL_LOCAL,   MIRROR_DOUBTFUL_REMOTE, MIRROR_DOUBTFUL_TAG,
+                                    MIRROR_REFUSED_LOST, MIRROR_REFUSED_CLASHING, MIRROR_DOUBTFUL_LOCAL,  MIRROR_DOUBTFUL_REMOTE};
 
 static uint8_t key[MIRROR_KEY_BYTES], old[MOST], plain[MOST], out[MOST], local[SECTORS * MOST], tags[SECTORS * TAG], remote[SECTORS * MOST];
 static uint32_t list[SECTORS];
@@ -154,6 +157,7 @@ static uint32_t open_or_rebuild(int rebuilds)
 static uint32_t open_side(void) { return open_or_rebuild(0); }
 static uint32_t rebuild(void) { return open_or_rebuild(1); }
 static uint32_t combine(void) { return mirror_combine(local + AT * v.s, v.s, remote + AT * v.s, v.s, out, v.s); }
+static uint32_t version(void) { return mirror_version() == MIRROR_VERSION ? MIRROR_DONE : NOT_DUE; }
 static uint32_t start_map(void) { return mirror_volume_start_map(&v); }
 static uint32_t count_suspects(void) { return mirror_volume_count_suspects(&v, &count); }
 static uint32_t blank(void) { return mirror_volume_blank(&v, AT + less * SECTORS); }
@@ -182,26 +186,33 @@ static const struct {
     {"two seals", two_seals, WHOLE, WHOLE, MIRROR_DONE},
     {"seal", seal, WHOLE, WHOLE, MIRROR_DONE},
     {"judge, whole", judge, WHOLE, WHOLE, AS_JUDGED},
-    {"judge, doubtful, lost or clashing", judge, AT_LOCAL, CLASHING, AS_JUDGED},
+    {"judge, doubtful, lost or clashing", judge, AT_LOCAL, SECOND_DONE, AS_JUDGED},
     {"open, done or refused 5", open_side, WHOLE, AT_REMOTE, MIRROR_DONE},
     {"open, done or refused 5", open_side, AT_TAG, LOST, MIRROR_REFUSED_NONE_FITS},
+    {"open, done or refused 5", open_side, CLASHING, CLASHING, MIRROR_DONE},
+    {"open, done or refused 5", open_side, FIRST_DONE, FIRST_DONE, MIRROR_REFUSED_NONE_FITS},
+    {"open, done or refused 5", open_side, SECOND_DONE, SECOND_DONE, MIRROR_DONE},
     {"rebuild", rebuild, WHOLE, AT_REMOTE, MIRROR_DONE},
+    {"rebuild", rebuild, CLASHING, CLASHING, MIRROR_DONE},
+    {"rebuild", rebuild, SECOND_DONE, SECOND_DONE, MIRROR_DONE},
     {"rebuild, refused 5", rebuild, AT_TAG, LOST, MIRROR_REFUSED_NONE_FITS},
+    {"rebuild, refused 5", rebuild, FIRST_DONE, FIRST_DONE, MIRROR_REFUSED_NONE_FITS},
     {"combine", combine, WHOLE, WHOLE, MIRROR_DONE},
     {"start map", start_map, WHOLE, WHOLE, MIRROR_DONE},
     {"count suspects", count_suspects, WHOLE, WHOLE, MIRROR_DONE},
-    {"blank", blank, WHOLE, LOST, MIRROR_DONE},
+    {"version", version, WHOLE, WHOLE, MIRROR_DONE},
+    {"blank", blank, WHOLE, SECOND_DONE, MIRROR_DONE},
     {"first stage", first_stage, WHOLE, WHOLE, MIRROR_DONE},
-    {"first stage, refused 10", first_stage, AT_LOCAL, CLASHING, MIRROR_REFUSED_STAGE_ORDER},
-    {"second stage, done or refused 10", second_stage, FIRST_DONE, FIRST_DONE, MIRROR_DONE},
-    {"second stage, done or refused 10", second_stage, WHOLE, WHOLE, MIRROR_REFUSED_STAGE_ORDER},
+    {"first stage, refused 10", first_stage, AT_LOCAL, SECOND_DONE, MIRROR_REFUSED_STAGE_ORDER},
+    {"second stage, done or refused 10", second_stage, FIRST_DONE, SECOND_DONE, MIRROR_DONE},
+    {"second stage, done or refused 10", second_stage, WHOLE, CLASHING, MIRROR_REFUSED_STAGE_ORDER},
     {"third stage", third_stage, SECOND_DONE, SECOND_DONE, MIRROR_DONE},
-    {"third stage, refused 10", third_stage, WHOLE, WHOLE, MIRROR_REFUSED_STAGE_ORDER},
-    {"third stage, refused 10", third_stage, FIRST_DONE, FIRST_DONE, MIRROR_REFUSED_STAGE_ORDER},
+    {"third stage, refused 10", third_stage, WHOLE, FIRST_DONE, MIRROR_REFUSED_STAGE_ORDER},
     {"read, whole", read_sector, WHOLE, WHOLE, AS_JUDGED},
-    {"read, doubtful, lost or clashing", read_sector, AT_LOCAL, CLASHING, AS_JUDGED},
+    {"read, doubtful, lost or clashing", read_sector, AT_LOCAL, SECOND_DONE, AS_JUDGED},
     {"mend, whole", mend, WHOLE, WHOLE, AS_JUDGED},
     {"mend, doubtful at a side", mend, AT_LOCAL, AT_REMOTE, AS_JUDGED},
+    {"mend, doubtful at a side", mend, FIRST_DONE, SECOND_DONE, AS_JUDGED},
     {"mend, doubtful at the tag", mend, AT_TAG, AT_TAG, AS_JUDGED},
     {"mend, lost or clashing", mend, LOST, CLASHING, AS_JUDGED},
     {"survey of 1 whole sector", survey, ALONE, ALONE, MIRROR_DONE},
@@ -273,7 +284,7 @@ static void run_refused(size_t s)
 
 int main(void)
 {
-    static const size_t sizes[] = {16, 512, 4096};
+    static const size_t sizes[] = {16, 48, 512, 4096};
     size_t i;
     for (i = 0; i < sizeof sizes / sizeof sizes[0]; i++) {
         run_rows(sizes[i]);

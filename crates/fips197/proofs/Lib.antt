@@ -2,3 +2,4 @@ pub mod Bytes
 pub mod Schedule
 pub mod Facts
 pub mod Bounds
+pub mod Twice

@@ -1,3 +1,4 @@
+use Rattle.mode.specs.Sealing.{sealed}
 use Rattle.mode.proofs.Preparing.{ready-context}
 use Rattle.sector.proofs.Prepared.{sealed-under}
 use borrow.Author.Needs.{needs}
@@ -26,6 +27,7 @@ same-length-3 : tie.Need-same-length-3
 same-length-3 c = search needs
 
 returns : tie.Need-returns
+unfolding sealed
 returns c = search sealed-under
 
 pub seal-checked-spec : {M : Type 1} → statement M
