@@ -1,6 +1,6 @@
 /*
  * A program for tests/check_work, which counts by callgrind how often each call here expands a key and encrypts a block: makes the calls of
- * the library, at four sizes and in each state of a sector that changes what they do, and prints a line for each. What a call needs is
+ * the library, at four sizes and in eight states of a sector, and prints a line for each. What a call needs is
  * made before it, and the call alone is made within `measured`: so what is counted from entering that function to leaving it is the call's.
  */
 #include "mirror.h"
@@ -142,10 +142,10 @@ static uint32_t two_seals(void) { return seal() | seal(); }
 
 static uint32_t judge(void)
 {
-    return mirror_judge(key, v.key_len, VOLUME, AT, local + AT * v.s, v.s, tags + AT * TAG, TAG, remote + AT * v.s, v.s, out, v.s - less);
+    return mirror_judge(key, v.key_len, VOLUME, AT, local + AT * v.s, v.s, tags + AT * TAG, TAG - less, remote + AT * v.s, v.s, out, v.s);
 }
 
-/* The remote side is opened where local is damaged, and so that both sides are refused once where the tag is; else the local side is. */
+/* The remote side is opened where the local sector or the tag is damaged, else the local side: so each is opened, and each is refused. */
 static uint32_t open_or_rebuild(int rebuilds)
 {
     const int at_remote = now == AT_LOCAL || now == AT_TAG;
