@@ -37,9 +37,9 @@ module _ (k : Key) (keyed : isKey k ≡ true) where
 
 -- ---- the example
 
-halves : cipherKey someKey ≡ toBytes 16 0x101112131415161718191a1b1c1d1e1f
+second-half : cipherKey someKey ≡ toBytes 16 0x101112131415161718191a1b1c1d1e1f
 unfolding toBytes cipherKey
-halves = refl
+second-half = refl
 
 first-half : take 16 (someKey .bytes) ≡ toBytes 16 0x000102030405060708090a0b0c0d0e0f
 unfolding toBytes
@@ -50,7 +50,7 @@ unfolding toBytes isKey
 is-key = refl
 
 own-keys : roundKeys someKey ≡ ofKey 0x101112131415161718191a1b1c1d1e1f
-own-keys = aes-128 someKey is-key ∙ ap (expand 4 10) halves
+own-keys = aes-128 someKey is-key ∙ ap (expand 4 10) second-half
 
 -- zeros have the hash zero, so their tag is the cipher of the cipher of zero
 hash-zero : mul (hashKey someKey) (brw (hashKey someKey) (blocksOf (replicate 16 0) ++ (tweak 0 0 ∷ []))) ≡ 0

@@ -26,6 +26,7 @@ same-length-2 c = search needs
 same-length-3 : tie.Need-same-length-3
 same-length-3 c = search needs
 
+-- unfolded for a contract that spells `sealed` out, as the edit seal_one_round_key_short does: it is refused for its mistake alone
 returns : tie.Need-returns
 unfolding sealed
 returns c = search sealed-under
