@@ -13,15 +13,16 @@ ghost use Rattle.history.specs.Volume.{mirror};
 ghost use Rattle.history.specs.Volume as W;
 ghost use Rattle.map.specs.Map.{startOutcome, countOutcome};
 ghost use Rattle.suspects.specs.Marks.{mapOutcome, mapReadOutcome, mapSurveyOutcome};
+ghost use Rattle.writes.specs.Write.{writeOutcome};
 ghost use Rattle.mirror.specs.Survey.{numbers, surveyResult};
 ghost use Rattle.mirror.specs.Version.{release};
 
-// The release that the library is of, 0.6.0, so that a program can tell whether it is the one that the program was compiled for.
+// The release that the library is of, 0.7.0, so that a program can tell whether it is the one that the program was compiled for.
 #[no_mangle]
 pub extern "C" fn mirror_version() -> u32
-    ensures { λ r. ⌜ r ≡ release 0 6 0 ⌝ }
+    ensures { λ r. ⌜ r ≡ release 0 7 0 ⌝ }
 {
-    6000
+    7000
 }
 
 fn done_number(d: Done) -> u32
@@ -207,6 +208,25 @@ pub extern "C" fn mirror_mend(
     ensures { λ r. ⌜ mapOutcome mirror (triple (now (local .entry)) (now (tags .entry)) (now (remote .entry))) (args (keyFrom (now (key .entry))) volume s n number) W.mend (now (map .entry)) ≡ (r, (triple (now (local .exit)) (now (tags .exit)) (now (remote .exit)), now (map .exit))) ⌝ }
 {
     judged_number(mapped::mend(key, volume, s, n, number, local, tags, remote, map))
+}
+
+// The write in one call: what each of its calls wrote has to land before the next begins, or power must not go within it.
+#[no_mangle]
+pub extern "C" fn mirror_write(
+    key: &[u8],
+    volume: u64,
+    s: usize,
+    n: usize,
+    number: usize,
+    plain: &[u8],
+    local: &mut [u8],
+    tags: &mut [u8],
+    remote: &mut [u8],
+    map: &mut [u64],
+) -> u32
+    ensures { λ r. ⌜ writeOutcome mirror (triple (now (local .entry)) (now (tags .entry)) (now (remote .entry))) (args (keyFrom (now (key .entry))) volume s n number) (now (plain .entry)) (now (map .entry)) ≡ (r, (triple (now (local .exit)) (now (tags .exit)) (now (remote .exit)), now (map .exit))) ⌝ }
+{
+    judged_number(laptop::write(key, volume, s, n, number, plain, local, tags, remote, map))
 }
 
 fn count_numbers(c: Counts) -> [u64; 5]
