@@ -19,7 +19,7 @@ use Rattle.suspects.specs.Marks.{isFinished, mapOutcome, mapReadOutcome}
 use Rattle.suspects.proofs.Calls.{map-calls}
 use Rattle.mapped.proofs.Answered.{done-refused}
 use Rattle.writes.specs.Write.{stages, following, callsLeave, writeOutcome}
-use Rattle.writes.proofs.Following.{after-doubt, after-refusal}
+use Rattle.writes.proofs.Following.{after-doubt, after-refusal, wrote}
 use Rattle.writes.proofs.Room.{least-read}
 use Rattle.laptop.specs.declared.Step.{Step}
 use Rattle.laptop.specs.Inner.{callOf}
@@ -67,24 +67,16 @@ not-finished f = go (isFinished (refusalNumber f)) (done-refused Clears {d = D.R
     go false e = refl
 
 module _ (v : Triple) (a : Args) (P m : List ℕ) where
-  wrote : {k : ℕ} {d e : Triple × List ℕ} {cs : List Call} → mapOutcome mirror v a (read (length P)) m ≡ (k, d) → following P k ≡ cs → callsLeave mirror a cs d ≡ e
-      → writeOutcome mirror v a P m ≡ (k, e)
-  unfolding writeOutcome
-  wrote {k} {d} h f g =
-      ap (λ (r : ℕ × (Triple × List ℕ)). (r .0, callsLeave mirror a (following P (r .0)) (r .1))) h
-      ∙ ap (λ (cs : List Call). (k, callsLeave mirror a cs d)) f
-      ∙ ap (λ (x : Triple × List ℕ). (k, x)) g
-
   module _ {j : Judged} {d : Triple × List ℕ} (reads : mapOutcome mirror v a (read (length P)) m ≡ (judgedNumber j, d)) where
     answered : {i : Judged} → j ≡ i → mapOutcome mirror v a (read (length P)) m ≡ (judgedNumber i, d)
     answered q = reads ∙ ap (λ (i : Judged). (judgedNumber i, d)) q
 
     pub wrote-whole : j ≡ J.Whole → {e : Triple × List ℕ} → callsLeave mirror a (stages P) d ≡ e → writeOutcome mirror v a P m ≡ (0, e)
-    wrote-whole q g = wrote (answered q) refl g
+    wrote-whole q g = wrote v a P m (answered q) refl g
 
     pub wrote-doubtful : {p : E.Place} → j ≡ J.Doubtful p → {e f : Triple × List ℕ} → mapOutcome mirror (d .0) a mend (d .1) .1 ≡ e → callsLeave mirror a (stages P) e ≡ f
         → writeOutcome mirror v a P m ≡ (judgedNumber (J.Doubtful p), f)
-    wrote-doubtful {p} q h g = wrote (answered q) (after-doubt P (placeNamed p)) (after-one a (stages P) mend (d .0) (d .1) h g)
+    wrote-doubtful {p} q h g = wrote v a P m (answered q) (after-doubt P (placeNamed p)) (after-one a (stages P) mend (d .0) (d .1) h g)
 
     pub wrote-refused : {f : Refusal} → j ≡ J.Refused f → writeOutcome mirror v a P m ≡ (refusalNumber f, d)
-    wrote-refused {f} q = wrote (answered q) (after-refusal P (refusalNumber f) (not-finished f)) refl
+    wrote-refused {f} q = wrote v a P m (answered q) (after-refusal P (refusalNumber f) (not-finished f)) refl

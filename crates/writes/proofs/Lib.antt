@@ -1,2 +1,4 @@
 pub mod Following
 pub mod Room
+pub mod Overwriting
+pub mod Meaning
