@@ -13,6 +13,7 @@ use Rattle.block.specs.Bytes.{Bytes, Plain}
 use Rattle.mode.specs.Sealing.{Triple}
 use Rattle.mode.specs.Scheme.{Place, local, tag, remote, on, wide, Scheme, Lawful}
 use Rattle.verdict.specs.Verdict.{Verdict, whole, doubtful, lost, clashing, judge}
+use Rattle.verdict.specs.Judging.{verdictNumber}
 use Rattle.verdict.proofs.JudgeExact.{same-place, local-tag, two-but, but-miss}
 use Rattle.answers.specs.Answers.{doubtNumber}
 use Rattle.answers.specs.Rules.{Rule, rule, firstOf, Args, isShape, shape, lengthRules, mapRules, mapWords}
@@ -164,7 +165,7 @@ module _ (a : Args) where
 
 -- ---- the write
 
-module _ (v : Triple) (b : AnyBytes v) (a : Args) (P : List ℕ) (bytes : Bytes P) (m : List ℕ) (w : Words m) where
+module _ (v : Triple) (b : AnyBytes v) (a : Args) (P : List ℕ) (bytes : Bytes P) (m : List ℕ) where
   abbrev here : ℕ
   here = a .number
 
@@ -238,58 +239,55 @@ module _ (v : Triple) (b : AnyBytes v) (a : Args) (P : List ℕ) (bytes : Bytes 
     read-passes : Passes v a (read (length P))
     read-passes = passes a v m checked (read (length P)) long
 
-    -- of marks of one bit the last is what shows
-    over : (x y : Bool) (k : List ℕ) → Words k → length k ≡ length m → mark here x (mark here y k) ≡ mark here x k
-    over x y k ws e = mark-mark here x y k ws (subst (λ (n : ℕ). here / 64 < n) (sym e) (in-map v a m first-passed))
+    -- the marks of the stages, over others
+    abbrev staged : List ℕ → List ℕ
+    staged k = mark here false (mark here true (mark here true k))
 
-    last-mark : (x : Bool) → mark here false (mark here true (mark here true (mark here x m))) ≡ mark here false m
-    last-mark x =
-        let m₁ : List ℕ = mark here x m in
-        let w₁ : Words m₁ = bits-facts .words-stay here x m w in
-        let l₁ : length m₁ ≡ length m = bits-facts .length-stays here x m in
-        ap (mark here false) (over true true m₁ w₁ l₁) ∙ over false true m₁ w₁ l₁ ∙ over false x m w refl
-
-    ran-whole : (Q : List ℕ) → Is v a (whole Q) → ran a (read (length P) ∷ stages P) (v, m) ≡ (0 ∷ 0 ∷ 0 ∷ 0 ∷ [], written v a P m)
+    ran-whole : (Q : List ℕ) → Is v a (whole Q) → ran a (read (length P) ∷ stages P) (v, m) ≡ (0 ∷ 0 ∷ 0 ∷ 0 ∷ [], (sealedAll v a P, staged (mark here false m)))
     unfolding isFinished
     ran-whole Q is =
         let m₁ : List ℕ = mark here false m in
         let o₁ : Open a v m₁ = open-after a v m checked v (images a v m checked) m₁ (bits-facts .length-stays here false m) in
         ran-one a (read (length P)) (stages P) v m (reads (means a v m checked .read-whole P read-passes Q .1 is)) (run-stages a P plain long v m₁ o₁ Q is)
-        ∙ ap (λ (k : List ℕ). (0 ∷ 0 ∷ 0 ∷ 0 ∷ [], (sealedAll v a P, k))) (last-mark false)
 
-    ran-doubtful : (d : Place) (Q : List ℕ) → Is v a (doubtful d Q) → ran a (read (length P) ∷ mend ∷ stages P) (v, m) ≡ (doubtNumber d ∷ doubtNumber d ∷ 0 ∷ 0 ∷ 0 ∷ [], written v a P m)
-    ran-doubtful d Q is =
-        let m₁ : List ℕ = mark here true m in
-        let m₂ : List ℕ = mark here false m₁ in
-        let v₂ : Triple = sealedIn v a d Q in
-        let l₁ : length m₁ ≡ length m = bits-facts .length-stays here true m in
-        let o₁ : Open a v m₁ = open-after a v m checked v (images a v m checked) m₁ l₁ in
-        let o₂ : Open a v₂ m₂ = open-after a v m₁ o₁ v₂ (sealed-images a v m₁ o₁ d Q (is .0)) m₂ (bits-facts .length-stays here false m₁) in
-        let found : mapOutcome mirror v a (read (length P)) m ≡ (doubtNumber d, (v, m₁)) =
-        reads (means a v m checked .read-doubtful P read-passes d Q .1 is)
-        ∙ ap (λ (x : Mark). (doubtNumber d, (v, marked x here m))) (doubt-read (length P) d) in
-        let mended : mapOutcome mirror v a mend m₁ ≡ (doubtNumber d, (v₂, m₂)) =
-        with-map a v m₁ o₁ mend (means a v m₁ o₁ .mend-writes (passes a v m₁ o₁ mend refl) d Q is)
-        ∙ ap (λ (x : Mark). (doubtNumber d, (v₂, marked x here m₁))) (doubt-mended d) in
-        let marks-end : mark here false (mark here true (mark here true m₂)) ≡ mark here false m =
-        ap (λ (k : List ℕ). mark here false (mark here true (mark here true k))) (over false true m w refl) ∙ last-mark false in
-        let images-end : sealedAll v₂ a P ≡ sealedAll v a P =
-        all-written (a .volume .size) (a .volume .count) here (checked .number) v (images a v m checked) (on (sealing mirror a .sealed here P))
-        (λ p. sealed-plain a v m checked p P plain .long) d (on (sealing mirror a .sealed here Q) d) (sealed-plain a v m checked d Q (is .0) .long) in
-        ran-one a (read (length P)) (mend ∷ stages P) v m found
-        (ran-one a mend (stages P) v m₁ mended (run-stages a P plain long v₂ m₂ o₂ Q (mended-whole a v m₁ o₁ d Q is)))
-        ∙ ap₂ (λ (u : Triple) (k : List ℕ). (doubtNumber d ∷ doubtNumber d ∷ 0 ∷ 0 ∷ 0 ∷ [], (u, k))) images-end marks-end
+    -- the read and the mend of a doubtful sector
+    module _ (d : Place) (Q : List ℕ) (is : Is v a (doubtful d Q)) where
+      read-doubtful : mapOutcome mirror v a (read (length P)) m ≡ (doubtNumber d, (v, mark here true m))
+      read-doubtful =
+          reads (means a v m checked .read-doubtful P read-passes d Q .1 is)
+          ∙ ap (λ (x : Mark). (doubtNumber d, (v, marked x here m))) (doubt-read (length P) d)
+
+      open₁ : Open a v (mark here true m)
+      open₁ = open-after a v m checked v (images a v m checked) (mark here true m) (bits-facts .length-stays here true m)
+
+      mend-doubtful : mapOutcome mirror v a mend (mark here true m) ≡ (doubtNumber d, (sealedIn v a d Q, mark here false (mark here true m)))
+      mend-doubtful =
+          with-map a v (mark here true m) open₁ mend (means a v (mark here true m) open₁ .mend-writes (passes a v (mark here true m) open₁ mend refl) d Q is)
+          ∙ ap (λ (x : Mark). (doubtNumber d, (sealedIn v a d Q, marked x here (mark here true m)))) (doubt-mended d)
+
+      open₂ : Open a (sealedIn v a d Q) (mark here false (mark here true m))
+      open₂ =
+          open-after a v (mark here true m) open₁ (sealedIn v a d Q) (sealed-images a v (mark here true m) open₁ d Q (is .0))
+          (mark here false (mark here true m)) (bits-facts .length-stays here false (mark here true m))
+
+      -- what the mend has written is written over
+      mend-covered : sealedAll (sealedIn v a d Q) a P ≡ sealedAll v a P
+      mend-covered =
+          all-written (a .volume .size) (a .volume .count) here (checked .number) v (images a v m checked) (on (sealing mirror a .sealed here P))
+          (λ p. sealed-plain a v m checked p P plain .long) d (on (sealing mirror a .sealed here Q) d) (sealed-plain a v m checked d Q (is .0) .long)
+
+      ran-doubtful : ran a (read (length P) ∷ mend ∷ stages P) (v, m)
+          ≡ (doubtNumber d ∷ doubtNumber d ∷ 0 ∷ 0 ∷ 0 ∷ [], (sealedAll v a P, staged (mark here false (mark here true m))))
+      ran-doubtful =
+          ran-one a (read (length P)) (mend ∷ stages P) v m read-doubtful
+          (ran-one a mend (stages P) v (mark here true m) mend-doubtful
+          (run-stages a P plain long (sealedIn v a d Q) (mark here false (mark here true m)) open₂ Q (mended-whole a v (mark here true m) open₁ d Q is)))
+          ∙ ap (λ (u : Triple). (doubtNumber d ∷ doubtNumber d ∷ 0 ∷ 0 ∷ 0 ∷ [], (u, staged (mark here false (mark here true m))))) mend-covered
 
     -- the number of the read's answer, and what the calls after it leave
     ran-write : {k : ℕ} {d : Triple × List ℕ} (cs : List Call) {ks : List ℕ} {x : Triple × List ℕ} → mapOutcome mirror v a (read (length P)) m ≡ (k, d) → following P k ≡ cs
         → ran a (read (length P) ∷ cs) (v, m) ≡ (ks, x) → writeOutcome mirror v a P m ≡ (k, x)
     ran-write cs h f g = wrote v a P m h f (sym (ap (λ (r : ℕ × (Triple × List ℕ)). callsLeave mirror a cs (r .1)) h) ∙ ap (λ (r : List ℕ × (Triple × List ℕ)). r .1) g)
-
-    write-whole : (Q : List ℕ) → Is v a (whole Q) → writeOutcome mirror v a P m ≡ (0, written v a P m)
-    write-whole Q is = ran-write (stages P) (reads (means a v m checked .read-whole P read-passes Q .1 is)) refl (ran-whole Q is)
-
-    write-doubtful : (d : Place) (Q : List ℕ) → Is v a (doubtful d Q) → writeOutcome mirror v a P m ≡ (doubtNumber d, written v a P m)
-    write-doubtful d Q is = ran-write (mend ∷ stages P) (reads (means a v m checked .read-doubtful P read-passes d Q .1 is)) (after-doubt P d) (ran-doubtful d Q is)
 
     write-lost : Is v a lost → writeOutcome mirror v a P m ≡ (6, (v, mark here true m))
     unfolding isFinished lostOrClashing
@@ -299,6 +297,44 @@ module _ (v : Triple) (b : AnyBytes v) (a : Args) (P : List ℕ) (bytes : Bytes 
     unfolding isFinished lostOrClashing
     write-clashing is = wrote v a P m (reads (means a v m checked .read-clashing P read-passes .1 is)) refl refl
 
+    -- the number of the answer, by the verdict
+    pub number-by : (w : Verdict) → Is v a w → writeOutcome mirror v a P m .0 ≡ verdictNumber w
+    unfolding writeOutcome
+    number-by (whole Q) is = ap (λ (r : ℕ × (Triple × List ℕ)). r .0) (reads (means a v m checked .read-whole P read-passes Q .1 is))
+    number-by (doubtful d Q) is = ap (λ (r : ℕ × (Triple × List ℕ)). r .0) (reads (means a v m checked .read-doubtful P read-passes d Q .1 is))
+    number-by lost is = ap (λ (r : ℕ × (Triple × List ℕ)). r .0) (write-lost is)
+    number-by clashing is = ap (λ (r : ℕ × (Triple × List ℕ)). r .0) (write-clashing is)
+
+    pub one-verdict : (w : Verdict) × Is v a w × ((u : Verdict) → Is v a u → u ≡ w)
+    one-verdict = means a v m checked .one-verdict (read (length P)) read-passes
+
+    pub whole-runs : (Q : List ℕ) → Is v a (whole Q) → callsAnswer a (read (length P) ∷ stages P) (v, m) ≡ 0 ∷ 0 ∷ 0 ∷ 0 ∷ []
+    whole-runs Q is = ap (λ (r : List ℕ × (Triple × List ℕ)). r .0) (ran-whole Q is)
+
+    pub doubtful-runs : (d : Place) (Q : List ℕ) → Is v a (doubtful d Q) → callsAnswer a (read (length P) ∷ mend ∷ stages P) (v, m) ≡ doubtNumber d ∷ doubtNumber d ∷ 0 ∷ 0 ∷ 0 ∷ []
+    doubtful-runs d Q is = ap (λ (r : List ℕ × (Triple × List ℕ)). r .0) (ran-doubtful d Q is)
+
+    -- ---- the map
+
+    module _ (w : Words m) where
+      -- of marks of one bit the last is what shows
+      over : (x y : Bool) (k : List ℕ) → Words k → length k ≡ length m → mark here x (mark here y k) ≡ mark here x k
+      over x y k ws e = mark-mark here x y k ws (subst (λ (n : ℕ). here / 64 < n) (sym e) (in-map v a m first-passed))
+
+      last-mark : (x : Bool) → mark here false (mark here true (mark here true (mark here x m))) ≡ mark here false m
+      last-mark x =
+          let m₁ : List ℕ = mark here x m in
+          let w₁ : Words m₁ = bits-facts .words-stay here x m w in
+          let l₁ : length m₁ ≡ length m = bits-facts .length-stays here x m in
+          ap (mark here false) (over true true m₁ w₁ l₁) ∙ over false true m₁ w₁ l₁ ∙ over false x m w refl
+
+      write-whole : (Q : List ℕ) → Is v a (whole Q) → writeOutcome mirror v a P m ≡ (0, written v a P m)
+      write-whole Q is = ran-write (stages P) (reads (means a v m checked .read-whole P read-passes Q .1 is)) refl (ran-whole Q is ∙ ap (λ (k : List ℕ). (0 ∷ 0 ∷ 0 ∷ 0 ∷ [], (sealedAll v a P, k))) (last-mark false))
+
+      write-doubtful : (d : Place) (Q : List ℕ) → Is v a (doubtful d Q) → writeOutcome mirror v a P m ≡ (doubtNumber d, written v a P m)
+      write-doubtful d Q is = ran-write (mend ∷ stages P) (reads (means a v m checked .read-doubtful P read-passes d Q .1 is)) (after-doubt P d)
+          (ran-doubtful d Q is ∙ ap (λ (k : List ℕ). (doubtNumber d ∷ doubtNumber d ∷ 0 ∷ 0 ∷ 0 ∷ [], (sealedAll v a P, staged k))) (over false true m w refl) ∙ ap (λ (k : List ℕ). (doubtNumber d ∷ doubtNumber d ∷ 0 ∷ 0 ∷ 0 ∷ [], (sealedAll v a P, k))) (last-mark false))
+
   -- ---- the number
 
   as-read : (out : List ℕ) → length out ≡ length P → writeOutcome mirror v a P m .0 ≡ mapReadOutcome mirror v a out m .0
@@ -307,17 +343,17 @@ module _ (v : Triple) (b : AnyBytes v) (a : Args) (P : List ℕ) (bytes : Bytes 
       ap (λ (o : ℕ). mapOutcome mirror v a (read o) m .0) (sym e)
       ∙ ap (λ (r : ℕ × (Triple × List ℕ)). r .0) (map-calls .read-same v a out m)
 
-  write-means : WriteMeans v a P m
-  write-means = record {
+  write-means : Words m → WriteMeans v a P m
+  write-means w = record {
     refuses = write-refused;
     as-read = as-read;
-    one-verdict = λ e. means a v m (checked e) .one-verdict (read (length P)) (read-passes e);
+    one-verdict = one-verdict;
     at-lost = write-lost;
     at-clashing = write-clashing;
-    at-whole = write-whole;
-    at-doubtful = write-doubtful;
-    whole-runs = λ e Q is. ap (λ (r : List ℕ × (Triple × List ℕ)). r .0) (ran-whole e Q is);
-    doubtful-runs = λ e d Q is. ap (λ (r : List ℕ × (Triple × List ℕ)). r .0) (ran-doubtful e d Q is);
+    at-whole = λ e. write-whole e w;
+    at-doubtful = λ e. write-doubtful e w;
+    whole-runs = whole-runs;
+    doubtful-runs = doubtful-runs;
   }
 
 pub writes-mean : WritesMean

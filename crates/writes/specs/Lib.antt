@@ -1,2 +1,3 @@
 pub mod Write
 pub mod Meaning
+pub mod History
