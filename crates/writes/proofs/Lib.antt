@@ -1,4 +1,7 @@
 pub mod Following
 pub mod Room
 pub mod Overwriting
+pub mod Accepted
 pub mod Meaning
+pub mod Machine
+pub mod History

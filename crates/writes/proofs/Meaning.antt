@@ -30,13 +30,14 @@ use Rattle.history.proofs.Options.{none-some}
 use Rattle.history.proofs.Refusals.{passes-early, shape-images}
 use Rattle.history.proofs.Sector.{on-store, on-store-other}
 use Rattle.suspects.specs.declared.Mark.{Mark}
-use Rattle.suspects.specs.declared.Mark.the-variants.{Clears, Sets, Keeps}
+use Rattle.suspects.specs.declared.Mark.the-variants.{Keeps}
 use Rattle.suspects.specs.Marks.{isFinished, lostOrClashing, marks, marked, mapRefusal, firstRules, mapOutcome, mapReadOutcome}
 use Rattle.suspects.specs.Calls.{callOrder}
 use Rattle.suspects.proofs.Calls.{map-calls}
 use Rattle.suspects.proofs.Marking.{volumeOnly, nine, map-passed, in-map, doubt-read, doubt-mended, before-keeps}
 use Rattle.writes.specs.Write.{stages, following, callsLeave, writeOutcome}
 use Rattle.writes.specs.Meaning.{callsAnswer, writeRules, WritePasses, written, WriteMeans, WritesMean}
+use Rattle.writes.proofs.Accepted.{keeps-unfinished}
 use Rattle.writes.proofs.Following.{after-doubt, after-refusal, wrote}
 use Rattle.writes.proofs.Overwriting.{all-written, mark-mark}
 
@@ -171,20 +172,6 @@ module _ (v : Triple) (b : AnyBytes v) (a : Args) (P : List ℕ) (bytes : Bytes 
 
   -- ---- refused before the verdict
 
-  -- a refusal that keeps the map is no number of a read that finished
-  keeps-unfinished : (o k : ℕ) → marks (read o) k ≡ Keeps → isFinished k ≡ false
-  keeps-unfinished o k e = go (isFinished k) (eqb k 0) e
-    where
-      isKeeps : Mark → Type 0
-      isKeeps Clears = ⊥
-      isKeeps Sets = ⊥
-      isKeeps Keeps = Unit {0}
-
-      go : (x y : Bool) → cond x (cond y Clears Sets) (lostOrClashing k) ≡ Keeps → x ≡ false
-      go true true z = absurd (subst isKeeps (sym z) tt)
-      go true false z = absurd (subst isKeeps (sym z) tt)
-      go false y z = refl
-
   -- none of these refusals marks the map
   rules-keep : (k : ℕ) → firstOf (writeRules v a P m) ≡ some k → marks (read (length P)) k ≡ Keeps
   unfolding isFinished lostOrClashing
@@ -210,7 +197,7 @@ module _ (v : Triple) (b : AnyBytes v) (a : Args) (P : List ℕ) (bytes : Bytes 
       ∙ ap (λ (x : Mark). (k, (v, marked x (a .number) m))) (rules-keep k e)
 
   write-refused : (k : ℕ) → firstOf (writeRules v a P m) ≡ some k → writeOutcome mirror v a P m ≡ (k, (v, m))
-  write-refused k e = wrote v a P m (read-refused k e) (after-refusal P k (keeps-unfinished (length P) k (rules-keep k e))) refl
+  write-refused k e = wrote v a P m (read-refused k e) (after-refusal P k (keeps-unfinished (read (length P)) k (rules-keep k e))) refl
 
   -- ---- past those refusals
 

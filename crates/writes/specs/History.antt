@@ -78,6 +78,10 @@ abbrev pub WriteFateOf : ℕ → WriteFate → Type 0
 WriteFateOf s completed = Unit {0}
 WriteFateOf s (cutAt k) = WriteCutOf s k
 
+-- kept with the old plaintext Q or the new one P
+abbrev pub OldOrNew : List ℕ → List ℕ → Held → Type 0
+OldOrNew Q P x = (d : Option Place) × ((x ≡ kept Q d) ⊎ (x ≡ kept P d))
+
 module _ (vol : Volume) where
   -- ---- lists of events
 
@@ -107,10 +111,6 @@ module _ (vol : Volume) where
   holdLaptop v h (e ∷ es) = holdLaptop (laptopLeaves v e) (holdLent vol v h (events v e)) es
 
   -- ---- the promise of a write
-
-  -- kept with the old plaintext Q or the new one P
-  abbrev pub OldOrNew : List ℕ → List ℕ → Held → Type 0
-  OldOrNew Q P x = (d : Option Place) × ((x ≡ kept Q d) ⊎ (x ≡ kept P d))
 
   -- sector i is not clashing, by fitting
   abbrev pub NotClashing : Triple → ℕ → Type 0
