@@ -38,7 +38,12 @@ use Rattle.writes.proofs.Following.{after-doubt}
 use Rattle.writes.proofs.Meaning.{number-by, one-verdict, whole-runs, doubtful-runs}
 use Rattle.writes.proofs.Machine.{Writing, AllWriting, following-writing, writing-lent, keeps-old-or-new, keeps-others}
 
-doubt-finished : (d : Place) → isFinished (doubtNumber d) ≡ true
+-- the numbers of calls that finished
+abbrev pub AllFinished : List ℕ → Type 0
+AllFinished [] = Unit {0}
+AllFinished (k ∷ ks) = (isFinished k ≡ true) × AllFinished ks
+
+pub doubt-finished : (d : Place) → isFinished (doubtNumber d) ≡ true
 unfolding isFinished
 doubt-finished local = refl
 doubt-finished tag = refl
@@ -63,7 +68,7 @@ module _ (vol : Volume) where
 
   module _ (a : Args) where
     -- to where their events lead
-    calls-lead : (cs : List Call) (d : Triple × List ℕ) → runLent vol (d .0) (callEvents a completed cs d) ≡ callsLeave mirror a cs d .0
+    pub calls-lead : (cs : List Call) (d : Triple × List ℕ) → runLent vol (d .0) (callEvents a completed cs d) ≡ callsLeave mirror a cs d .0
     calls-lead [] d = refl
     calls-lead (c ∷ cs) d = calls-lead cs (mapOutcome mirror (d .0) a c (d .1) .1)
 
@@ -155,10 +160,6 @@ module _ (vol : Volume) where
 
     -- ---- a third stage that ends the calls, all of which finish
 
-    abbrev AllFinished : List ℕ → Type 0
-    AllFinished [] = Unit {0}
-    AllFinished (k ∷ ks) = (isFinished k ≡ true) × AllFinished ks
-
     ends-new : (P : List ℕ) (cs : List Call) (d : Triple × List ℕ) (h : State) → AllFinished (callsAnswer a (cs ++ (third P ∷ [])) d)
         → holdLent vol (d .0) h (callEvents a completed (cs ++ (third P ∷ [])) d) (a .number) ≡ kept P none
     ends-new P [] d h y =
@@ -211,7 +212,7 @@ module _ (vol : Volume) where
         none-left own (writeRules v a P m) (ap firstOf (append-assoc (firstRules v a m) (lengthRules (length P) (a .volume .size)) own) ∙ e)
 
     module _ (b : AnyBytes v) (bytes : Bytes P) where
-      read-number : (e : WritePasses v a P m) (w : Verdict) → Is v a w → mapOutcome mirror v a (read (length P)) m .0 ≡ verdictNumber w
+      pub read-number : (e : WritePasses v a P m) (w : Verdict) → Is v a w → mapOutcome mirror v a (read (length P)) m .0 ≡ verdictNumber w
       unfolding writeOutcome
       read-number e w is = number-by v b a P bytes m e w is
 
@@ -221,16 +222,16 @@ module _ (vol : Volume) where
       new-by e h (whole Q) is f =
           ap (λ (k : ℕ). holdLent vol v h (callEvents a completed (read (length P) ∷ following P k) (v, m)) (a .number)) (read-number e (whole Q) is)
           ∙ ends-new a P (read (length P) ∷ first P ∷ second P ∷ []) (v, m) h
-          (subst (AllFinished a) (sym (whole-runs v b a P bytes m e Q is)) (f, (f, (f, (f, tt)))))
+          (subst AllFinished (sym (whole-runs v b a P bytes m e Q is)) (f, (f, (f, (f, tt)))))
       new-by e h (doubtful d Q) is f =
           ap (λ (k : ℕ). holdLent vol v h (callEvents a completed (read (length P) ∷ following P k) (v, m)) (a .number)) (read-number e (doubtful d Q) is)
           ∙ ap (λ (cs : List Call). holdLent vol v h (callEvents a completed (read (length P) ∷ cs) (v, m)) (a .number)) (after-doubt P d)
           ∙ ends-new a P (read (length P) ∷ mend ∷ first P ∷ second P ∷ []) (v, m) h
-          (subst (AllFinished a) (sym (doubtful-runs v b a P bytes m e d Q is)) (f, (f, (refl, (refl, (refl, tt))))))
+          (subst AllFinished (sym (doubtful-runs v b a P bytes m e d Q is)) (f, (f, (refl, (refl, (refl, tt))))))
       new-by e h lost is f = false-true f
       new-by e h clashing is f = false-true f
 
-      finished-new : (h : State) → isFinished (writeOutcome mirror v a P m .0) ≡ true → heldAfter vol v h a P m completed (a .number) ≡ kept P none
+      pub finished-new : (h : State) → isFinished (writeOutcome mirror v a P m .0) ≡ true → heldAfter vol v h a P m completed (a .number) ≡ kept P none
       unfolding writeOutcome
       finished-new h f =
           let e : WritePasses v a P m = passes (finished-accepted v a (read (length P)) m f) in

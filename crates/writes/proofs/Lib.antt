@@ -5,3 +5,4 @@ pub mod Accepted
 pub mod Meaning
 pub mod Machine
 pub mod History
+pub mod Witness

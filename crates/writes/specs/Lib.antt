@@ -1,3 +1,4 @@
 pub mod Write
 pub mod Meaning
 pub mod History
+pub mod Witness

@@ -1,0 +1,312 @@
+-- A list in which power goes in each of the calls of a write. Assumes nothing but the laws of the sealing.
+use mathlib.Core.Path.{_≡_, refl, sym, ap, subst, _∙_}
+use mathlib.Core.Bool.{true}
+use mathlib.Core.List.{List, [], _∷_, _++_, append-assoc}
+use mathlib.Core.Option.{none}
+use Prim.Native.Nat.{ℕ, _*_, _<_}
+use lib.ListN.{length, replicate, length-replicate}
+use borrow.Author.Tests.{eq-eqb, le-leb}
+use Rattle.block.specs.Bytes.{Plain}
+use Rattle.block.proofs.Lists.{plain-zeros}
+use Rattle.mode.specs.Sealing.{Triple}
+use Rattle.mode.specs.Scheme.{Place, local, tag, remote, on, Scheme, Lawful}
+use Rattle.verdict.specs.Verdict.{whole, doubtful, Means}
+use Rattle.answers.specs.Rules.{Args, Volume, isShape, shape, lengthRules, mapWords}
+use Rattle.answers.proofs.Rules.{first-none}
+use Rattle.answers.proofs.Passing.{Common, sector-pass}
+use Rattle.history.specs.Volume.{Call, blank, first, second, third, mend, read, store, mirror}
+use Rattle.history.specs.Machine.{kept, State, start}
+use Rattle.history.specs.Power.{Cut, cut, damage, Images, CutOf}
+use Rattle.history.specs.History.{at, own}
+use Rattle.history.specs.HistoryFrom.{AnyBytes}
+use Rattle.history.specs.Meaning.{Is, sealedAll}
+use Rattle.history.specs.Witness.{AcceptedVolume}
+use Rattle.history.proofs.Demand3.{mirror-sound}
+use Rattle.history.proofs.Events.{argsOf}
+use Rattle.history.proofs.Images.{any-bytes, sector-write, images-all, sector-all}
+use Rattle.history.proofs.Meaning.{calls-mean}
+use Rattle.history.proofs.Refusals.{passes-early}
+use Rattle.history.proofs.Sector.{AllPlain}
+use Rattle.suspects.specs.Marks.{isFinished, firstRules, mapOutcome}
+use Rattle.suspects.specs.History.{Lent, lentRefusal, runLent, holdLent}
+use Rattle.suspects.proofs.Marking.{nine, right-words}
+use Rattle.suspects.proofs.Calls.{map-calls}
+use Rattle.writes.specs.Write.{stages, following, callsLeave}
+use Rattle.writes.specs.Meaning.{callsAnswer, WritePasses}
+use Rattle.writes.specs.History.{WriteCut, inCall, afterCall, WriteFate, completed, cutAt, LaptopEvent, single, write, writeCalls, made, broken, callEvents, events, WriteCutOf, WriteFateOf, laptopLeaves, LaptopAllowed, AllLaptopAllowed, runLaptop, holdLaptop}
+use Rattle.writes.specs.Witness.{Doubt, CutIn, Met, EachCut, EveryCut}
+use Rattle.writes.proofs.Accepted.{finished-accepted}
+use Rattle.writes.proofs.Following.{after-doubt}
+use Rattle.writes.proofs.Meaning.{number-by, whole-runs, doubtful-runs}
+use Rattle.writes.proofs.History.{AllFinished, doubt-finished, calls-lead, read-number, finished-new, laptop-history}
+
+-- ---- lists one behind the other
+
+module _ (vol : Volume) where
+  allowed-both : (xs ys : List LaptopEvent) (v : Triple) → AllLaptopAllowed vol v xs → AllLaptopAllowed vol (runLaptop vol v xs) ys → AllLaptopAllowed vol v (xs ++ ys)
+  allowed-both [] ys v p q = q
+  allowed-both (x ∷ xs) ys v p q = (p .0, allowed-both xs ys (laptopLeaves vol v x) (p .1) q)
+
+  run-both : (xs ys : List LaptopEvent) (v : Triple) → runLaptop vol v (xs ++ ys) ≡ runLaptop vol (runLaptop vol v xs) ys
+  run-both [] ys v = refl
+  run-both (x ∷ xs) ys v = run-both xs ys (laptopLeaves vol v x)
+
+  hold-both : (xs ys : List LaptopEvent) (v : Triple) (h : State) → holdLaptop vol v h (xs ++ ys) ≡ holdLaptop vol (runLaptop vol v xs) (holdLaptop vol v h xs) ys
+  hold-both [] ys v h = refl
+  hold-both (x ∷ xs) ys v h = hold-both xs ys (laptopLeaves vol v x) (holdLent vol v h (events v x))
+
+  -- an event met in one of two lists is met in both together
+  met-left : (xs ys : List LaptopEvent) (v : Triple) (c : Call) → Met vol v xs c → Met vol v (xs ++ ys) c
+  met-left xs ys v c m = record {
+    before = m .before;
+    event = m .event;
+    behind = m .behind ++ ys;
+    splits = ap (λ (l : List LaptopEvent). l ++ ys) (m .splits) ∙ append-assoc (m .before) (m .event ∷ m .behind) ys;
+    cut-in = m .cut-in;
+  }
+
+  met-right : (xs ys : List LaptopEvent) (v : Triple) (c : Call) → Met vol (runLaptop vol v xs) ys c → Met vol v (xs ++ ys) c
+  met-right xs ys v c m = record {
+    before = xs ++ m .before;
+    event = m .event;
+    behind = m .behind;
+    splits = ap (λ (l : List LaptopEvent). xs ++ l) (m .splits) ∙ sym (append-assoc xs (m .before) (m .event ∷ m .behind));
+    cut-in = subst (λ (u : Triple). CutIn vol u (m .event) c) (sym (run-both xs (m .before) v)) (m .cut-in);
+  }
+
+  -- ---- power goes in the call c, after the calls xs have finished
+
+  abbrev after-all : List Call → Cut → WriteCut
+  after-all [] k = inCall k
+  after-all (x ∷ xs) k = afterCall (after-all xs k)
+
+  after-all-of : (s : ℕ) (xs : List Call) (k : Cut) → CutOf s (cut k) → WriteCutOf s (after-all xs k)
+  after-all-of s [] k p = p
+  after-all-of s (x ∷ xs) k p = after-all-of s xs k p
+
+  module _ (a : Args) (k : Cut) where
+    ends-in : (xs : List Call) (c : Call) (ys : List Call) (d : Triple × List ℕ)
+        → callEvents a (cutAt (after-all xs k)) (xs ++ (c ∷ ys)) d ≡ callEvents a completed xs d ++ (broken a c k (callsLeave mirror a xs d .1) ∷ [])
+    ends-in [] c ys d = refl
+    ends-in (x ∷ xs) c ys d = ap (λ (ls : List Lent). made a x (d .1) ∷ ls) (ends-in xs c ys (mapOutcome mirror (d .0) a x (d .1) .1))
+
+    -- the call is not refused where all of them finish
+    not-refused : (xs : List Call) (c : Call) (ys : List Call) (d : Triple × List ℕ) → AllFinished (callsAnswer a (xs ++ (c ∷ ys)) d)
+        → let e = callsLeave mirror a xs d in lentRefusal (e .0) a c (e .1) ≡ none
+    not-refused [] c ys d f = finished-accepted (d .0) a c (d .1) (f .0)
+    not-refused (x ∷ xs) c ys d f = not-refused xs c ys (mapOutcome mirror (d .0) a x (d .1) .1) (f .1)
+
+    write-cut-in : (v : Triple) (P m : List ℕ) (xs : List Call) (c : Call) (ys : List Call) → writeCalls v a P m ≡ xs ++ (c ∷ ys)
+        → AllFinished (callsAnswer a (xs ++ (c ∷ ys)) (v, m)) → CutIn vol v (write a P m (cutAt (after-all xs k))) c
+    write-cut-in v P m xs c ys e f = record {
+      earlier = callEvents a completed xs (v, m);
+      args = a;
+      power = k;
+      map = callsLeave mirror a xs (v, m) .1;
+      ends = ap (λ (cs : List Call). callEvents a (cutAt (after-all xs k)) cs (v, m)) e ∙ ends-in xs c ys (v, m);
+      accepted = ap (λ (u : Triple). lentRefusal u a c (callsLeave mirror a xs (v, m) .1)) (calls-lead vol a xs (v, m)) ∙ not-refused xs c ys (v, m) f;
+    }
+
+-- each call of a list has the property
+abbrev Every : (Call → Type 0) → List Call → Type 0
+Every T [] = Unit {0}
+Every T (c ∷ cs) = T c × Every T cs
+
+-- ---- the list
+
+module _ (vol : Volume) (accepted : AcceptedVolume vol) (i : ℕ) (lt : i < vol .count) (P : List ℕ) (plain : Plain (vol .size) P) (k : Cut) (cuts : CutOf (vol .size) (cut k)) where
+  abbrev a : Args
+  a = argsOf vol i
+
+  -- a map of as many words as n needs
+  abbrev m : List ℕ
+  m = replicate (mapWords (vol .count)) 0
+
+  abbrev zeros : List ℕ
+  zeros = replicate (vol .size) 0
+
+  abbrev S : Scheme
+  S = own mirror vol
+
+  lawful : Lawful (vol .size) S
+  lawful = mirror-sound (vol .number) .lawful (vol .key) (vol .size) (accepted .key) (accepted .size)
+
+  module _ (v : Triple) (I : Images (vol .size) (vol .count) v) where
+    right-shape : isShape (vol .size) (vol .count) v ≡ true
+    unfolding isShape shape
+    right-shape =
+        let n : ℕ = vol .count in
+        let s : ℕ = vol .size in
+        simp (le-leb 1 n (accepted .least), le-leb n 65536 (accepted .most), eq-eqb (length (v .local)) (n * s) (I .images local .long), eq-eqb (length (v .remote)) (n * s) (I .images remote .long), eq-eqb (length (v .tag)) (n * 16) (I .images tag .long))
+
+    checked : Common v vol
+    checked = record { key = accepted .key; size = accepted .size; shape = right-shape }
+
+    passes : WritePasses v a P m
+    passes =
+        first-none (lengthRules (length P) (vol .size)) (firstRules v a m)
+        (right-words v vol m (nine a) (length-replicate (mapWords (vol .count)) 0) ∙ sector-pass v a checked lt)
+        ∙ simp (eq-eqb (length P) (vol .size) (plain .long))
+
+    -- ---- blank
+
+    abbrev blanked : Triple
+    blanked = laptopLeaves vol v (single (made a blank m))
+
+    blank-leaves : blanked ≡ sealedAll v a zeros
+    blank-leaves =
+        ap (λ (r : ℕ × (Triple × List ℕ)). r .1 .0) (map-calls .as-without v a blank m (length-replicate (mapWords (vol .count)) 0))
+        ∙ ap (λ (r : ℕ × Triple). r .1)
+        (calls-mean v (any-bytes (vol .size) (vol .count) v I) a .blank-writes (passes-early v a blank (record { common = checked; number = lt; lengths = refl })))
+
+    all-plain : AllPlain (vol .size) (on (S .sealed i zeros)) (local ∷ tag ∷ remote ∷ [])
+    all-plain = let L = lawful .shape i zeros (plain-zeros (vol .size)) .places in (L local, (L tag, (L remote, tt)))
+
+    blank-images : Images (vol .size) (vol .count) blanked
+    blank-images = subst (Images (vol .size) (vol .count)) (sym blank-leaves) (images-all (vol .size) (vol .count) i lt (on (S .sealed i zeros)) (local ∷ tag ∷ remote ∷ []) all-plain v I)
+
+    blank-sector : at vol blanked i ≡ S .sealed i zeros
+    blank-sector = ap (λ (u : Triple). at vol u i) blank-leaves ∙ sector-all (vol .size) (vol .count) i lt (on (S .sealed i zeros)) (local ∷ tag ∷ remote ∷ []) all-plain v I
+
+    blank-whole : Is blanked a (whole zeros)
+    blank-whole = (plain-zeros (vol .size), λ p. ap (λ (t : Triple). on t p) blank-sector)
+
+    blank-allowed : LaptopAllowed vol v (single (made a blank m))
+    blank-allowed = (λ z. refl, tt, tt)
+
+  -- ---- a write of P
+
+  write-takes : (v : Triple) (f : WriteFate) → WriteFateOf (vol .size) f → LaptopAllowed vol v (write a P m f)
+  write-takes v f g = (λ z. refl, plain .bytes, g)
+
+  -- power in one of its calls
+  module _ (v : Triple) (I : Images (vol .size) (vol .count) v) where
+    bytes-of : AnyBytes v
+    bytes-of = any-bytes (vol .size) (vol .count) v I
+
+    -- on a whole sector
+    whole-cut : (Q : List ℕ) → Is v a (whole Q) → (xs : List Call) (c : Call) (ys : List Call) → read (length P) ∷ stages P ≡ xs ++ (c ∷ ys)
+        → CutIn vol v (write a P m (cutAt (after-all vol xs k))) c
+    unfolding isFinished
+    whole-cut Q is xs c ys e =
+        write-cut-in vol a k v P m xs c ys
+        (ap (λ (j : ℕ). read (length P) ∷ following P j) (read-number vol v a P m bytes-of (plain .bytes) (passes v I) (whole Q) is) ∙ e)
+        (subst (λ (cs : List Call). AllFinished (callsAnswer a cs (v, m))) e
+        (subst AllFinished (sym (whole-runs v bytes-of a P (plain .bytes) m (passes v I) Q is)) (refl, (refl, (refl, (refl, tt))))))
+
+    -- in the mend of a doubtful one
+    mend-cut : (d : Place) (Q : List ℕ) → Is v a (doubtful d Q) → CutIn vol v (write a P m (cutAt (afterCall (inCall k)))) mend
+    unfolding isFinished
+    mend-cut d Q is =
+        write-cut-in vol a k v P m (read (length P) ∷ []) mend (stages P)
+        (ap (λ (j : ℕ). read (length P) ∷ following P j) (read-number vol v a P m bytes-of (plain .bytes) (passes v I) (doubtful d Q) is)
+        ∙ ap (λ (cs : List Call). read (length P) ∷ cs) (after-doubt P d))
+        (subst AllFinished (sym (doubtful-runs v bytes-of a P (plain .bytes) m (passes v I) d Q is)) (doubt-finished d, (doubt-finished d, (refl, (refl, (refl, tt))))))
+
+  -- ---- events that meet a cut in the call c
+
+  record Meets (v : Triple) (c : Call) : Type 0 where
+    list : List LaptopEvent
+    allowed : AllLaptopAllowed vol v list
+    images : Images (vol .size) (vol .count) (runLaptop vol v list)
+    met : Met vol v list c
+
+  meets-whole : (v : Triple) → Images (vol .size) (vol .count) v → (xs : List Call) (c : Call) (ys : List Call) → read (length P) ∷ stages P ≡ xs ++ (c ∷ ys) → Meets v c
+  meets-whole v I xs c ys e =
+      let es : List LaptopEvent = single (made a blank m) ∷ write a P m (cutAt (after-all vol xs k)) ∷ [] in
+      let y : AllLaptopAllowed vol v es = (blank-allowed v I, (write-takes (blanked v I) (cutAt (after-all vol xs k)) (after-all-of vol (vol .size) xs k cuts), tt)) in
+      record {
+        list = es;
+        allowed = y;
+        images = laptop-history .from-gone vol v I es y .images;
+        met = record { before = single (made a blank m) ∷ []; event = write a P m (cutAt (after-all vol xs k)); behind = []; splits = refl; cut-in = whole-cut (blanked v I) (blank-images v I) zeros (blank-whole v I) xs c ys e };
+      }
+
+  module _ (d : Place) (x : List ℕ) (doubt : Doubt vol i d x) where
+    abbrev hurt : Lent
+    hurt = record { event = damage d i x; map = [] }
+
+    -- the damaged sector is doubtful
+    hurt-doubtful : (v : Triple) (I : Images (vol .size) (vol .count) v) → Is (laptopLeaves vol (blanked v I) (single hurt)) a (doubtful d zeros)
+    hurt-doubtful v I =
+        subst (λ (t : Triple). Means (vol .size) S i t (doubtful d zeros))
+        (sym (sector-write (vol .size) (vol .count) i lt d x (doubt .0) (blanked v I) (blank-images v I) ∙ ap (store d x) (blank-sector v I))) (doubt .1)
+
+    meets-mend : (v : Triple) → Images (vol .size) (vol .count) v → Meets v mend
+    meets-mend v I =
+        let es : List LaptopEvent = single (made a blank m) ∷ single hurt ∷ [] in
+        let fate : WriteFate = cutAt (afterCall (inCall k)) in
+        let all : List LaptopEvent = es ++ (write a P m fate ∷ []) in
+        let y : AllLaptopAllowed vol v es = (blank-allowed v I, ((lt, doubt .0), tt)) in
+        let z : AllLaptopAllowed vol v all = allowed-both vol es (write a P m fate ∷ []) v y (write-takes (runLaptop vol v es) fate cuts, tt) in
+        record {
+          list = all;
+          allowed = z;
+          images = laptop-history .from-gone vol v I all z .images;
+          met = record { before = es; event = write a P m fate; behind = []; splits = refl; cut-in = mend-cut (runLaptop vol v es) (laptop-history .from-gone vol v I es y .images) d zeros (hurt-doubtful v I) };
+        }
+
+  -- ---- a write that finishes, on a sector that was blanked
+
+  abbrev last-two : List LaptopEvent
+  last-two = single (made a blank m) ∷ write a P m completed ∷ []
+
+  last-allowed : (v : Triple) → Images (vol .size) (vol .count) v → AllLaptopAllowed vol v last-two
+  last-allowed v I = (blank-allowed v I, (write-takes (blanked v I) completed tt, tt))
+
+  last-holds : (v : Triple) → Images (vol .size) (vol .count) v → (h : State) → holdLaptop vol v h last-two i ≡ kept P none
+  unfolding isFinished
+  last-holds v I h =
+      let u : Triple = blanked v I in
+      let b : AnyBytes u = any-bytes (vol .size) (vol .count) u (blank-images v I) in
+      finished-new vol u a P m b (plain .bytes) (holdLent vol v h (made a blank m ∷ []))
+      (ap isFinished (number-by u b a P (plain .bytes) m (passes u (blank-images v I)) (whole zeros) (blank-whole v I)))
+
+  -- ---- all of them
+
+  holds-behind : (xs ys : List LaptopEvent) (v : Triple) → ((h : State) → holdLaptop vol (runLaptop vol v xs) h ys i ≡ kept P none)
+      → (h : State) → holdLaptop vol v h (xs ++ ys) i ≡ kept P none
+  holds-behind xs ys v f h = ap (λ (g : State). g i) (hold-both vol xs ys v h) ∙ f (holdLaptop vol v h xs)
+
+  -- events that meet a cut in the first of some calls, then events that meet one in each of the others
+  record MeetsAll (v : Triple) (cs : List Call) : Type 0 where
+    list : List LaptopEvent
+    allowed : AllLaptopAllowed vol v list
+    met : Every (Met vol v list) cs
+    holds : (h : State) → holdLaptop vol v h list i ≡ kept P none
+
+  meets-then : (v : Triple) (c : Call) (cs : List Call) (x : Meets v c) → MeetsAll (runLaptop vol v (x .list)) cs → MeetsAll v (c ∷ cs)
+  meets-then v c cs x y = record {
+    list = x .list ++ y .list;
+    allowed = allowed-both vol (x .list) (y .list) v (x .allowed) (y .allowed);
+    met = (met-left vol (x .list) (y .list) v c (x .met), every-right cs (y .met));
+    holds = holds-behind (x .list) (y .list) v (y .holds);
+  }
+    where
+      every-right : (cs : List Call) → Every (Met vol (runLaptop vol v (x .list)) (y .list)) cs → Every (Met vol v (x .list ++ y .list)) cs
+      every-right [] e = tt
+      every-right (c ∷ cs) e = (met-right vol (x .list) (y .list) v c (e .0), every-right cs (e .1))
+
+  all-met : (d : Place) (x : List ℕ) → Doubt vol i d x → (v : Triple) → Images (vol .size) (vol .count) v → MeetsAll v (mend ∷ read (length P) ∷ stages P)
+  all-met d x doubt v I =
+      let e₁ : Meets v mend = meets-mend d x doubt v I in
+      let e₂ : Meets (runLaptop vol v (e₁ .list)) (read (length P)) = meets-whole _ (e₁ .images) [] (read (length P)) (stages P) refl in
+      let e₃ : Meets (runLaptop vol _ (e₂ .list)) (first P) = meets-whole _ (e₂ .images) (read (length P) ∷ []) (first P) (second P ∷ third P ∷ []) refl in
+      let e₄ : Meets (runLaptop vol _ (e₃ .list)) (second P) = meets-whole _ (e₃ .images) (read (length P) ∷ first P ∷ []) (second P) (third P ∷ []) refl in
+      let e₅ : Meets (runLaptop vol _ (e₄ .list)) (third P) = meets-whole _ (e₄ .images) (read (length P) ∷ first P ∷ second P ∷ []) (third P) [] refl in
+      meets-then _ _ _ e₁ (meets-then _ _ _ e₂ (meets-then _ _ _ e₃ (meets-then _ _ _ e₄ (meets-then _ _ _ e₅
+      (record { list = last-two; allowed = last-allowed _ (e₅ .images); met = tt; holds = last-holds _ (e₅ .images) })))))
+
+pub each-cut : EveryCut
+each-cut vol accepted v I i lt P plain k cuts d x doubt =
+    let r = all-met vol accepted i lt P plain k cuts d x doubt v I in
+    record {
+      list = r .list;
+      allowed = r .allowed;
+      in-mend = r .met .0;
+      in-read = r .met .1 .0;
+      in-first = r .met .1 .1 .0;
+      in-second = r .met .1 .1 .1 .0;
+      in-third = r .met .1 .1 .1 .1 .0;
+      holds = r .holds start;
+    }
