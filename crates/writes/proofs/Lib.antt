@@ -5,4 +5,5 @@ pub mod Accepted
 pub mod Meaning
 pub mod Machine
 pub mod History
+pub mod Lists
 pub mod Witness

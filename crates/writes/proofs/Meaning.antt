@@ -22,7 +22,7 @@ use Rattle.answers.proofs.Passing.{Common, common, length-due}
 use Rattle.history.specs.HistoryFrom.{AnyBytes}
 use Rattle.history.specs.Meaning.{Passes, Is, FitsAt, sealedIn, sealedAll, CallMeans}
 use Rattle.history.specs.Power.{Images}
-use Rattle.history.specs.Volume.{Call, first, second, third, mend, read, lengths, write, store, judgeRules, late, sector, sealing, mirror, outcome, readOutcome}
+use Rattle.history.specs.Volume.{Call, blank, first, second, third, mend, read, lengths, write, store, judgeRules, late, sector, sealing, mirror, outcome, readOutcome}
 use Rattle.history.proofs.Demand3.{mirror-sound}
 use Rattle.history.proofs.Images.{any-bytes, images-write, sector-write, passed-lawful}
 use Rattle.history.proofs.Meaning.{calls-mean}
@@ -166,27 +166,36 @@ module _ (a : Args) where
 
 -- ---- the write
 
+-- refusal 3 keeps the map
+three-keeps : (c : Call) → marks c 3 ≡ Keeps
+unfolding isFinished lostOrClashing
+three-keeps blank = refl
+three-keeps (first P) = refl
+three-keeps (second P) = refl
+three-keeps (third P) = refl
+three-keeps mend = refl
+three-keeps (read o) = refl
+
 module _ (v : Triple) (b : AnyBytes v) (a : Args) (P : List ℕ) (bytes : Bytes P) (m : List ℕ) where
   abbrev here : ℕ
   here = a .number
 
   -- ---- refused before the verdict
 
-  -- none of these refusals marks the map
-  rules-keep : (k : ℕ) → firstOf (writeRules v a P m) ≡ some k → marks (read (length P)) k ≡ Keeps
-  unfolding isFinished lostOrClashing
-  rules-keep k e = go (mapRefusal v a m) refl
+  -- none of these refusals marks the map, of a read or of a mend
+  rules-keep : (c : Call) (k : ℕ) → firstOf (writeRules v a P m) ≡ some k → marks c k ≡ Keeps
+  rules-keep c k e = go (mapRefusal v a m) refl
     where
-      length-keeps : (x : Bool) → firstOf (rule 3 x ∷ []) ≡ some k → marks (read (length P)) k ≡ Keeps
-      length-keeps true z = let is : 3 ≡ k = cc in subst (λ (j : ℕ). marks (read (length P)) j ≡ Keeps) is refl
+      length-keeps : (x : Bool) → firstOf (rule 3 x ∷ []) ≡ some k → marks c k ≡ Keeps
+      length-keeps true z = let is : 3 ≡ k = cc in subst (λ (j : ℕ). marks c j ≡ Keeps) is (three-keeps c)
       length-keeps false z = absurd (none-some z)
 
-      go : (o : Option ℕ) → mapRefusal v a m ≡ o → marks (read (length P)) k ≡ Keeps
+      go : (o : Option ℕ) → mapRefusal v a m ≡ o → marks c k ≡ Keeps
       go none f = length-keeps (not (eqb (length P) (a .volume .size))) (sym (first-none (lengthRules (length P) (a .volume .size)) (firstRules v a m) f) ∙ e)
       go (some j) f =
           let z : some j ≡ some k = sym (first-some (lengthRules (length P) (a .volume .size)) (firstRules v a m) f) ∙ e in
           let is : j ≡ k = cc in
-          subst (λ (x : ℕ). marks (read (length P)) x ≡ Keeps) is (before-keeps v a m (read (length P)) j f)
+          subst (λ (x : ℕ). marks c x ≡ Keeps) is (before-keeps v a m c j f)
 
   read-refused : (k : ℕ) → firstOf (writeRules v a P m) ≡ some k → mapOutcome mirror v a (read (length P)) m ≡ (k, (v, m))
   read-refused k e =
@@ -194,10 +203,10 @@ module _ (v : Triple) (b : AnyBytes v) (a : Args) (P : List ℕ) (bytes : Bytes 
       let order : firstOf (callOrder v a (read (length P)) m) ≡ some k =
       ap firstOf (sym (append-assoc (firstRules v a m) (lengthRules (length P) (a .volume .size)) own)) ∙ first-some own (writeRules v a P m) e in
       map-calls .refuses v a (read (length P)) m k order
-      ∙ ap (λ (x : Mark). (k, (v, marked x (a .number) m))) (rules-keep k e)
+      ∙ ap (λ (x : Mark). (k, (v, marked x (a .number) m))) (rules-keep (read (length P)) k e)
 
   write-refused : (k : ℕ) → firstOf (writeRules v a P m) ≡ some k → writeOutcome mirror v a P m ≡ (k, (v, m))
-  write-refused k e = wrote v a P m (read-refused k e) (after-refusal P k (keeps-unfinished (read (length P)) k (rules-keep k e))) refl
+  write-refused k e = wrote v a P m (read-refused k e) (after-refusal P k (keeps-unfinished (read (length P)) k (rules-keep (read (length P)) k e))) refl
 
   -- ---- past those refusals
 
@@ -330,6 +339,25 @@ module _ (v : Triple) (b : AnyBytes v) (a : Args) (P : List ℕ) (bytes : Bytes 
       ap (λ (o : ℕ). mapOutcome mirror v a (read o) m .0) (sym e)
       ∙ ap (λ (r : ℕ × (Triple × List ℕ)). r .0) (map-calls .read-same v a out m)
 
+  -- ---- the map by the number
+
+  abbrev ByAnswer : ℕ × (Triple × List ℕ) → Type 0
+  ByAnswer r = r .1 .1 ≡ marked (marks mend (r .0)) (a .number) m
+
+  map-by-answer : Words m → ByAnswer (writeOutcome mirror v a P m)
+  unfolding isFinished lostOrClashing
+  map-by-answer w = go (firstOf (writeRules v a P m)) refl
+    where
+      by-verdict : (e : WritePasses v a P m) (u : Verdict) → Is v a u → ByAnswer (writeOutcome mirror v a P m)
+      by-verdict e (whole Q) is = subst ByAnswer (sym (write-whole e w Q is)) refl
+      by-verdict e (doubtful d Q) is = subst ByAnswer (sym (write-doubtful e w d Q is)) (sym (ap (λ (x : Mark). marked x (a .number) m) (doubt-mended d)))
+      by-verdict e lost is = subst ByAnswer (sym (write-lost e is)) refl
+      by-verdict e clashing is = subst ByAnswer (sym (write-clashing e is)) refl
+
+      go : (o : Option ℕ) → firstOf (writeRules v a P m) ≡ o → ByAnswer (writeOutcome mirror v a P m)
+      go none e = by-verdict e (one-verdict e .0) (one-verdict e .1)
+      go (some k) e = subst ByAnswer (sym (write-refused k e)) (sym (ap (λ (x : Mark). marked x (a .number) m) (rules-keep mend k e)))
+
   write-means : Words m → WriteMeans v a P m
   write-means w = record {
     refuses = write-refused;
@@ -339,6 +367,7 @@ module _ (v : Triple) (b : AnyBytes v) (a : Args) (P : List ℕ) (bytes : Bytes 
     at-clashing = write-clashing;
     at-whole = λ e. write-whole e w;
     at-doubtful = λ e. write-doubtful e w;
+    map-by-answer = map-by-answer w;
     whole-runs = whole-runs;
     doubtful-runs = doubtful-runs;
   }

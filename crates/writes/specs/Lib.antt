@@ -1,4 +1,5 @@
 pub mod Write
 pub mod Meaning
 pub mod History
+pub mod Lists
 pub mod Witness

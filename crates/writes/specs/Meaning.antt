@@ -17,7 +17,7 @@ use Rattle.answers.specs.Rules.{Rule, firstOf, Args, lengthRules}
 use Rattle.history.specs.HistoryFrom.{AnyBytes}
 use Rattle.history.specs.Meaning.{Is, sealedAll}
 use Rattle.history.specs.Volume.{Call, mend, read, mirror}
-use Rattle.suspects.specs.Marks.{firstRules, mapOutcome, mapReadOutcome}
+use Rattle.suspects.specs.Marks.{marks, marked, firstRules, mapOutcome, mapReadOutcome}
 use Rattle.writes.specs.Write.{stages, writeOutcome}
 
 -- the numbers that calls on one sector answer, each of which gets the images and the map as the one before left them
@@ -51,6 +51,9 @@ module _ (v : Triple) (a : Args) (P m : List ℕ) where
     -- else it writes, and answers the verdict that it found
     pub at-whole : WritePasses → (Q : List ℕ) → Is v a (whole Q) → writeOutcome mirror v a P m ≡ (0, written)
     pub at-doubtful : WritePasses → (d : Place) (Q : List ℕ) → Is v a (doubtful d Q) → writeOutcome mirror v a P m ≡ (doubtNumber d, written)
+    -- the map, by the number of the answer alone, is as after a mend with this answer: a finished write clears the sector's bit, 6 and 7 set
+    -- it, and every other refusal leaves it
+    pub map-by-answer : let r = writeOutcome mirror v a P m in r .1 .1 ≡ marked (marks mend (r .0)) (a .number) m
     -- and none of its calls is refused
     pub whole-runs : WritePasses → (Q : List ℕ) → Is v a (whole Q)
         → callsAnswer a (read (length P) ∷ stages P) (v, m) ≡ 0 ∷ 0 ∷ 0 ∷ 0 ∷ []
