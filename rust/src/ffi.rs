@@ -213,6 +213,27 @@ extern "C" {
         map_len: usize,
     ) -> u32;
 
+    /// Judges one sector, mends it if it is doubtful, and makes the three stages of
+    /// a plaintext.
+    pub fn mirror_write(
+        key: *const u8,
+        key_len: usize,
+        volume: u64,
+        s: usize,
+        n: usize,
+        number: usize,
+        plain: *const u8,
+        plain_len: usize,
+        local: *mut u8,
+        local_len: usize,
+        tags: *mut u8,
+        tags_len: usize,
+        remote: *mut u8,
+        remote_len: usize,
+        map: *mut u64,
+        map_len: usize,
+    ) -> u32;
+
     /// Judges every sector. `counts` is given whole, doubtful, clashing, lost
     /// and the health; `list` the lost, then the clashing, then the doubtful
     /// sectors, the numbers of each kind rising.
