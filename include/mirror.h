@@ -28,9 +28,9 @@
  *
  * ANSWERS. Each call returns one number: 0 or MIRROR_DOUBTFUL_... when it is done, or a refusal, MIRROR_REFUSED_..., from 1 to 11 or 13
  * (12 is the program frames's own). The refusals of a call are checked in the order in which they stand at it below, and the first that
- * holds is the answer. A refused call has changed none of the bytes that it was lent, with one exception: a mirror_read or mirror_mend that
- * refuses 6 or 7 has set its sector's bit in the map, and changed nothing else. `out` is written when the answer is certain, and all of it.
- * Always look at the answer: after a refusal `out` is what it was before. mirror_text gives a text for each answer.
+ * holds is the answer. A refused call has changed none of the bytes that it was lent, with one exception: a mirror_read, mirror_mend or
+ * mirror_write that refuses 6 or 7 has set its sector's bit in the map, and changed nothing else. `out` is written when the answer is
+ * certain, and all of it. Always look at the answer: after a refusal `out` is what it was before. mirror_text gives a text for each answer.
  *
  * MAP. Every call on a volume is lent a map of its suspect sectors, to know what to look at without judging all of them. It has one bit a
  * sector: sector i is bit i mod 64, lowest first, of word i/64. A set bit means suspect; mirror_is_suspect tests one, and
@@ -39,11 +39,11 @@
  *
  *   call                       answer                  the sector's bit
  *   blank, third stage         0                       cleared
- *   mend                       0, 0x81, 0x82, 0x83     cleared: the sector is whole now
+ *   mend, write                0, 0x81, 0x82, 0x83     cleared: the sector is whole now
  *   first stage, second stage  0                       set
  *   read                       0                       cleared
  *   read                       0x81, 0x82, 0x83        set
- *   read, mend                 6 lost, 7 clashing      set, and no other byte that was lent is changed
+ *   read, mend, write          6 lost, 7 clashing      set, and no other byte that was lent is changed
  *   all of these               any other refusal       as it was, after 10 too, even if the sector is lost
  *   survey                     any                     the whole map as it was: only its length is looked at
  *
@@ -70,12 +70,12 @@
  * Any lengths and numbers are safe otherwise: wrong ones are refused. Every address and every volume's number is accepted.
  *
  * MEMORY AND THREADS. A call keeps no state between calls, allocates nothing and does no input or output. It needs memcpy and memset from
- * the C library and nothing else. mirror_survey uses less than 48 KiB of stack (MIRROR_STACK_BYTES), every other call less than 20 KiB
- * (measured, not proved). Calls may run at once in several threads if no buffer that one of them may write is lent to another. A call on a
- * volume is lent whole images, so on one volume only reads and surveys may run at once. Every call on one sector is lent the map to write,
- * reads too: a read may run beside another read or a survey only if no other call is lent its map; else take a lock. Such a map says only
- * what its own reads have met. Surveys and mirror_count_suspects only read the map: among themselves they may share one. Whoever looks at
- * a map that another thread's call is lent to write, also by mirror_is_suspect, needs the lock too.
+ * the C library and nothing else. mirror_survey uses less than 48 KiB of stack (MIRROR_STACK_BYTES), mirror_write less than 24 KiB, every
+ * other call less than 20 KiB (measured, not proved). Calls may run at once in several threads if no buffer that one of them may write is
+ * lent to another. A call on a volume is lent whole images, so on one volume only reads and surveys may run at once. Every call on one
+ * sector is lent the map to write, reads too: a read may run beside another read or a survey only if no other call is lent its map; else
+ * take a lock. Such a map says only what its own reads have met. Surveys and mirror_count_suspects only read the map: among themselves they
+ * may share one. Whoever looks at a map that another thread's call is lent to write, also by mirror_is_suspect, needs the lock too.
  *
  * SECRETS. What an attacker can guess, forge or measure is no claim of this library; SECURITY.md in the source tree says more.
  *   - Local and remote sector together give the plaintext WITHOUT the key (mirror_combine): whoever may read both needs no key.
@@ -102,6 +102,10 @@
  *     remote sector whose write had begun may then hold anything.
  *   - The images are private memory. A call may store a tag byte by byte: in a shared mapping of the medium (mmap with MAP_SHARED) a kill
  *     or a power cut between two bytes leaves a mixture, and a second stage cut so loses the sector.
+ *   - A write is the three stages, with a flush after each. mirror_write, which makes them in one call, leaves no time to flush in between:
+ *     it is for where power cannot go within a call. What it asks for stands there.
+ *
+ * FROM 0.6.0 AND 0.5.0. mirror_write is new, and nothing else changes.
  *
  * FROM 0.4.0, and from 0.3.0, which has the same calls. Every call on a volume takes the map: `map, map_len` behind `remote_len`. No stored
  * byte changes. A program has to do this:
@@ -139,8 +143,8 @@
 #include <stdint.h>
 
 /* The release that this header is of: a number, major*1000000 + minor*1000 + patch, which #if can compare, and the same as a text. */
-#define MIRROR_VERSION 6000
-#define MIRROR_VERSION_TEXT "0.6.0"
+#define MIRROR_VERSION 7000
+#define MIRROR_VERSION_TEXT "0.7.0"
 
 /* Sizes in bytes, and the sectors of the largest volume. */
 #define MIRROR_KEY_BYTES 32
@@ -157,10 +161,10 @@
 #define MIRROR_SIDE_LOCAL 0u
 #define MIRROR_SIDE_REMOTE 1u
 
-/* Answers of a call that is done. */
-#define MIRROR_DONE 0u               /* a call that only writes: it has written */
-#define MIRROR_WHOLE 0u              /* judge, read, mend: one plaintext fits all three places */
-#define MIRROR_DOUBTFUL_LOCAL 0x81u  /* judge, read, mend: exactly one plaintext fits two places, and it does not fit the local sector */
+/* Answers of a call that is done. Judge, read, mend and write answer one of the last four; a mend and a write what they found before. */
+#define MIRROR_DONE 0u               /* any other call: it has written what is due */
+#define MIRROR_WHOLE 0u              /* one plaintext fits all three places */
+#define MIRROR_DOUBTFUL_LOCAL 0x81u  /* exactly one plaintext fits two places, and it does not fit the local sector */
 #define MIRROR_DOUBTFUL_TAG 0x82u    /* the same, and it does not fit the tag */
 #define MIRROR_DOUBTFUL_REMOTE 0x83u /* the same, and it does not fit the remote sector */
 
@@ -307,7 +311,8 @@ MIRROR_ANSWER mirror_blank(const uint8_t *key, size_t key_len, uint64_t volume, 
 
 /*
  * A write is three calls with the same plaintext, in this order, each finished (see POWER CUTS) before the next begins. Each writes only
- * the sector's part of the one image that it takes without const, and the sector's bit in the map.
+ * the sector's part of the one image that it takes without const, and the sector's bit in the map. For all of it in one call see
+ * mirror_write below.
  *
  * Between the stages and after a cut in one, a read gives the old plaintext until the tag is written and the new one from then on, or it
  * refuses 7: that only if another plaintext fits two places, as the old or the new one does where both have the same tag. Read and mend
@@ -364,6 +369,34 @@ MIRROR_ANSWER mirror_read(const uint8_t *key, size_t key_len, uint64_t volume, s
 MIRROR_ANSWER mirror_mend(const uint8_t *key, size_t key_len, uint64_t volume, size_t s, size_t n, size_t number, uint8_t *local,
                           size_t local_len, uint8_t *tags, size_t tags_len, uint8_t *remote, size_t remote_len, uint64_t *map,
                           size_t map_len);
+
+/*
+ * Writes one sector in one call: reads it, mends it if it is doubtful, and makes the three stages with the plaintext. The answer is what it
+ * found before, and MIRROR_DOUBTFUL_... is no failure: the plaintext is written then too. Afterwards the sector is whole, sealed as the
+ * plaintext in all three places. It refuses as a read does, and no stage in it refuses, so 10 never comes.
+ *
+ * When it may be used. A power cut in it is a cut in one of the calls that it makes, or between two. A sector that held a plaintext and did
+ * not clash then holds the old one or the new one, on the same premise as with separate calls: what each of them wrote has landed before
+ * the next writes, and a tag lands whole. But here the caller cannot flush in between. So it is for these two cases only:
+ *   - Power cannot go within the call. A battery lasts until the call has answered and what it stored is safe; or the images are in memory
+ *     and are saved between calls, all three in one step that is done whole or not at all, so that a cut leaves one save or the next.
+ *   - The images are themselves the medium, as in persistent memory, and there what each of these calls stores lands before what the next
+ *     one stores, and the 16 bytes of a tag at once. The library does nothing for that: its stores are ordinary ones, without flush or
+ *     fence, the compiler may reorder them within mirror_write, and a tag may be stored byte by byte. Unless all this is known to be right
+ *     on a platform, take the first case alone. A shared mapping of files (mmap) is no such medium: its pages reach the disk in any order.
+ * Whoever brings the images to a disk by writing out and flushing needs the three stages, with a flush after each. After mirror_write all
+ * three places differ from the disk at once: a cut while they are written out can leave a sector of which nothing fits two places, and no
+ * order of writing them out is right for every answer. After a cut, where one was possible, go by "After a cut in a write" above.
+ *   1, 2, 8, 13, 9 as mirror_blank
+ *   3 plain_len is not s
+ *   6 lost: the sector's bit in the map is set, and nothing else has changed
+ *   7 clashing: the same
+ *   MIRROR_WHOLE: the plaintext is written, and the bit is cleared
+ *   MIRROR_DOUBTFUL_LOCAL, MIRROR_DOUBTFUL_TAG, MIRROR_DOUBTFUL_REMOTE: the same; that place had been damaged, or a write was left there
+ */
+MIRROR_ANSWER mirror_write(const uint8_t *key, size_t key_len, uint64_t volume, size_t s, size_t n, size_t number, const uint8_t *plain,
+                           size_t plain_len, uint8_t *local, size_t local_len, uint8_t *tags, size_t tags_len, uint8_t *remote,
+                           size_t remote_len, uint64_t *map, size_t map_len);
 
 /*
  * Surveys a volume: judges every sector and writes the five counts. The number of each sector that is not whole stands once at the front
@@ -538,6 +571,13 @@ static inline MIRROR_ANSWER mirror_volume_mend(const struct mirror_volume *v, si
 {
     return mirror_mend(v->key, v->key_len, v->volume, v->s, v->n, number, v->local, v->local_len, v->tags, v->tags_len, v->remote,
                        v->remote_len, v->map, v->map_len);
+}
+
+/* mirror_write: all three stages, and a mend before if one is due. Only where power cannot go within the call: see mirror_write. */
+static inline MIRROR_ANSWER mirror_volume_write(const struct mirror_volume *v, size_t number, const uint8_t *plain, size_t plain_len)
+{
+    return mirror_write(v->key, v->key_len, v->volume, v->s, v->n, number, plain, plain_len, v->local, v->local_len, v->tags, v->tags_len,
+                        v->remote, v->remote_len, v->map, v->map_len);
 }
 
 /* mirror_survey: the numbers of the lost, then the clashing, then the doubtful sectors go to list, which has n entries or more. */

@@ -148,8 +148,8 @@ static void turn_map(void) { *map = ~*map; }
 #define SETS(number, answer, call) (mark(number, 1), MAKES(answer, call, #call), DUE_MAP)
 #define CLEARS(number, answer, call) (mark(number, 0), MAKES(answer, call, #call), DUE_MAP)
 
-/* A refused call changes nothing; it is made with each bit of the map set, and clear. SUSPECTS is of 6 and 7 from a read or a mend: the
- * call sets the bit of this sector, changes nothing else, and made again leaves it so. */
+/* A refused call changes nothing; it is made with each bit of the map set, and clear. SUSPECTS is of 6 and 7 from a read, a mend or a
+ * write: the call sets the bit of this sector, changes nothing else, and made again leaves it so. */
 #define LEAVES(refusal, call, text) (MAKES(refusal, call, text), NO_MORE(text))
 #define REFUSES(refusal, call) (LEAVES(refusal, call, #call), turn_map(), LEAVES(refusal, call, #call))
 #define SUSPECTS(number, refusal, call) \
@@ -519,16 +519,17 @@ static void stages(void)
     NO_MORE("mirror_third_stage");
 }
 
-/* Reads and mends of sector 1 refuse while its write stands at a clash, and a first stage is not due. */
+/* Reads and mends of sector 1 and writes in one call refuse while its write stands at a clash, and a first stage is not due. */
 static void clashes_between(void)
 {
     SUSPECTS(1, MIRROR_REFUSED_CLASHING, mirror_read(SHAPED, 1, IMAGES, MAP, OUT));
     SUSPECTS(1, MIRROR_REFUSED_CLASHING, mirror_mend(SHAPED, 1, IMAGES, MAP));
+    SUSPECTS(1, MIRROR_REFUSED_CLASHING, mirror_write(SHAPED, 1, PLAIN, IMAGES, MAP));
     REFUSES(MIRROR_REFUSED_STAGE_ORDER, mirror_first_stage(SHAPED, 1, PLAIN, IMAGES, MAP));
 }
 
-/* A write of (h, 1) over (h, 0), which have one tag: between the stages both fit two places. The next stage is due all the same. */
-static void stages_of_equal_tags(void)
+/* Sector 1 holds (h, 0), and (h, 1), which has the same tag, is to be written. */
+static void before_equal_tags(void)
 {
     clash(1);
     plain[SIZE - 1] = 0;
@@ -536,6 +537,12 @@ static void stages_of_equal_tags(void)
     put_part(1);
     plain[SIZE - 1] = 1;
     sealed(1);
+}
+
+/* Between the stages both fit two places. The next stage is due all the same. */
+static void stages_of_equal_tags(void)
+{
+    before_equal_tags();
     SETS(1, MIRROR_DONE, mirror_first_stage(SHAPED, 1, PLAIN, IMAGES, MAP));
     DUE(locals + SIZE, local, SIZE);
     NO_MORE("mirror_first_stage into a clash");
@@ -563,6 +570,11 @@ static uint32_t second(size_t key_len, size_t s, size_t n, size_t number, const 
 static uint32_t third(size_t key_len, size_t s, size_t n, size_t number, const uint8_t *p, size_t length, uint64_t *m, size_t words)
 {
     return mirror_third_stage(key, key_len, VOLUME, s, n, number, p, length, IMAGES, m, words);
+}
+
+static uint32_t at_once(size_t key_len, size_t s, size_t n, size_t number, const uint8_t *p, size_t length, uint64_t *m, size_t words)
+{
+    return mirror_write(key, key_len, VOLUME, s, n, number, p, length, IMAGES, m, words);
 }
 
 static void stage_refuses(Stage stage, const char *name)
@@ -600,6 +612,7 @@ static void under_another_number(uint64_t number)
     const uint32_t all_three[COUNT] = {0, 1, 2};
     SUSPECTS(1, MIRROR_REFUSED_LOST, mirror_read(KEY, number, SIZE, COUNT, 1, IMAGES, MAP, OUT));
     SUSPECTS(1, MIRROR_REFUSED_LOST, mirror_mend(KEY, number, SIZE, COUNT, 1, IMAGES, MAP));
+    SUSPECTS(1, MIRROR_REFUSED_LOST, mirror_write(KEY, number, SIZE, COUNT, 1, PLAIN, IMAGES, MAP));
     REFUSES(MIRROR_REFUSED_STAGE_ORDER, mirror_first_stage(KEY, number, SIZE, COUNT, 1, PLAIN, IMAGES, MAP));
     REFUSES(MIRROR_REFUSED_STAGE_ORDER, mirror_second_stage(KEY, number, SIZE, COUNT, 1, PLAIN, IMAGES, MAP));
     REFUSES(MIRROR_REFUSED_STAGE_ORDER, mirror_third_stage(KEY, number, SIZE, COUNT, 1, PLAIN, IMAGES, MAP));
@@ -634,6 +647,51 @@ static void mends(void)
     puts("calls: mirror_mend");
 }
 
+/* Writes `plain`, whose sealing local, tag and remote have, to sector 1 in one call, which finds this there. */
+static void writes_over(uint32_t found)
+{
+    CLEARS(1, found, mirror_write(SHAPED, 1, PLAIN, IMAGES, MAP));
+    due_part(1);
+    NO_MORE("mirror_write");
+}
+
+/* The same with another plaintext, over damage to one place. */
+static void writes_over_damage(uint8_t *place, uint32_t found, unsigned first_byte)
+{
+    place[7] ^= 0x40;
+    fill(plain, SIZE, first_byte);
+    sealed(1);
+    writes_over(found);
+}
+
+/* What the map says of the sector before has no say; CLEARS has it suspect, and here it is not. */
+static void writes_with_a_clear_bit(void)
+{
+    tags[MIRROR_TAG_BYTES] ^= 1;
+    *map = 0;
+    GIVES(MIRROR_DOUBTFUL_TAG, mirror_write(SHAPED, 1, PLAIN, IMAGES, MAP));
+    due_part(1);
+    NO_MORE("mirror_write with a clear bit");
+}
+
+static void writes(void)
+{
+    fill(plain, SIZE, 0x11);
+    sealed(1);
+    writes_over(MIRROR_WHOLE);
+    writes_over(MIRROR_WHOLE); /* what is there already */
+    writes_over_damage(locals + SIZE, MIRROR_DOUBTFUL_LOCAL, 0x22);
+    writes_over_damage(tags + MIRROR_TAG_BYTES, MIRROR_DOUBTFUL_TAG, 0x33);
+    writes_over_damage(remotes + SIZE, MIRROR_DOUBTFUL_REMOTE, 0x44);
+    writes_with_a_clear_bit();
+    before_equal_tags();
+    writes_over(MIRROR_WHOLE);
+    before_equal_tags();
+    tags[MIRROR_TAG_BYTES] ^= 1;
+    writes_over(MIRROR_DOUBTFUL_TAG);
+    stage_refuses(at_once, "mirror_write");
+}
+
 /* Sector 0 clashing, 1 doubtful, 2 lost. */
 static void damage_all(void)
 {
@@ -646,6 +704,10 @@ static void damage_all(void)
     SUSPECTS(0, MIRROR_REFUSED_CLASHING, mirror_mend(SHAPED, 0, IMAGES, MAP));
     SUSPECTS(2, MIRROR_REFUSED_LOST, mirror_read(SHAPED, 2, IMAGES, MAP, OUT));
     SUSPECTS(2, MIRROR_REFUSED_LOST, mirror_mend(SHAPED, 2, IMAGES, MAP));
+    SUSPECTS(0, MIRROR_REFUSED_CLASHING, mirror_write(SHAPED, 0, PLAIN, IMAGES, MAP));
+    SUSPECTS(2, MIRROR_REFUSED_LOST, mirror_write(SHAPED, 2, PLAIN, IMAGES, MAP));
+    REFUSES(MIRROR_REFUSED_OTHER_LENGTH, mirror_write(SHAPED, 0, plain, SIZE - 16, IMAGES, MAP));
+    REFUSES(MIRROR_REFUSED_OTHER_LENGTH, mirror_write(SHAPED, 2, plain, SIZE - 16, IMAGES, MAP));
 }
 
 /* So many entries of the list, from `at` on, are sectors of which a read answers this. Gives the entry behind them. */
@@ -751,6 +813,7 @@ int main(void)
     under_another_number(VOLUME + 1);
     puts("calls: under another number");
     mends();
+    writes();
     surveys();
     every_answer();
     maps();

@@ -166,6 +166,7 @@ static uint32_t second_stage(void) { return mirror_volume_second_stage(&v, AT, p
 static uint32_t third_stage(void) { return mirror_volume_third_stage(&v, AT, plain, v.s - less); }
 static uint32_t read_sector(void) { return mirror_volume_read(&v, AT, out, v.s - less); }
 static uint32_t mend(void) { return mirror_volume_mend(&v, AT + less * SECTORS); }
+static uint32_t write_sector(void) { return mirror_volume_write(&v, AT, plain, v.s - less); }
 
 static uint32_t survey(void)
 {
@@ -215,6 +216,11 @@ static const struct {
     {"mend, doubtful at a side", mend, FIRST_DONE, SECOND_DONE, AS_JUDGED},
     {"mend, doubtful at the tag", mend, AT_TAG, AT_TAG, AS_JUDGED},
     {"mend, lost or clashing", mend, LOST, CLASHING, AS_JUDGED},
+    {"write in one call, whole", write_sector, WHOLE, WHOLE, AS_JUDGED},
+    {"write in one call, doubtful at a side", write_sector, AT_LOCAL, AT_REMOTE, AS_JUDGED},
+    {"write in one call, doubtful at a side", write_sector, FIRST_DONE, SECOND_DONE, AS_JUDGED},
+    {"write in one call, doubtful at the tag", write_sector, AT_TAG, AT_TAG, AS_JUDGED},
+    {"write in one call, lost or clashing", write_sector, LOST, CLASHING, AS_JUDGED},
     {"survey of 1 whole sector", survey, ALONE, ALONE, MIRROR_DONE},
     {"survey of 16 whole sectors", survey, ALL_WHOLE, ALL_WHOLE, MIRROR_DONE},
     {"survey of 16 sectors, 4 damaged", survey, SOME_DAMAGED, SOME_DAMAGED, MIRROR_DONE},
@@ -236,6 +242,7 @@ static const struct {
     {"third stage", third_stage, MIRROR_REFUSED_OTHER_LENGTH},
     {"read", read_sector, MIRROR_REFUSED_OTHER_LENGTH},
     {"mend", mend, MIRROR_REFUSED_SECTOR_NUMBER},
+    {"write in one call", write_sector, MIRROR_REFUSED_OTHER_LENGTH},
     {"survey", survey, MIRROR_REFUSED_LIST_LENGTH},
 };
 

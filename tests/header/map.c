@@ -216,10 +216,14 @@ static void marks(size_t i)
     tags[number * MIRROR_TAG_BYTES] ^= 1;
     SETS(i, MIRROR_DOUBTFUL_TAG, mirror_read(NAMED, number, IMAGES, MAP, OUT));
     CLEARS(i, MIRROR_DOUBTFUL_TAG, mirror_mend(NAMED, number, IMAGES, MAP));
+    CLEARS(i, MIRROR_WHOLE, mirror_write(NAMED, number, PLAIN, IMAGES, MAP));
+    tags[number * MIRROR_TAG_BYTES] ^= 1;
+    CLEARS(i, MIRROR_DOUBTFUL_TAG, mirror_write(NAMED, number, PLAIN, IMAGES, MAP));
     local[number * SIZE] ^= 1;
     remote[number * SIZE] ^= 2;
     SETS(i, MIRROR_REFUSED_LOST, mirror_read(NAMED, number, IMAGES, MAP, OUT));
     SETS(i, MIRROR_REFUSED_LOST, mirror_mend(NAMED, number, IMAGES, MAP));
+    SETS(i, MIRROR_REFUSED_LOST, mirror_write(NAMED, number, PLAIN, IMAGES, MAP));
 }
 
 /* The length is exact in a volume's call too, and one that is refused leaves the map. */

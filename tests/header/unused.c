@@ -18,6 +18,7 @@ void drop_all(const struct mirror_volume *v, uint8_t *b, uint32_t *list, uint64_
     mirror_third_stage(b, 0, 0, 0, 0, 0, b, 0, b, 0, b, 0, b, 0, words, 0);
     mirror_read(b, 0, 0, 0, 0, 0, b, 0, b, 0, b, 0, words, 0, b, 0);
     mirror_mend(b, 0, 0, 0, 0, 0, b, 0, b, 0, b, 0, words, 0);
+    mirror_write(b, 0, 0, 0, 0, 0, b, 0, b, 0, b, 0, b, 0, words, 0);
     mirror_survey(b, 0, 0, 0, 0, b, 0, b, 0, b, 0, words, 0, list, 0, words);
     mirror_volume_start_map(v);
     mirror_volume_count_suspects(v, words);
@@ -27,5 +28,6 @@ void drop_all(const struct mirror_volume *v, uint8_t *b, uint32_t *list, uint64_
     mirror_volume_third_stage(v, 0, b, 0);
     mirror_volume_read(v, 0, b, 0);
     mirror_volume_mend(v, 0);
+    mirror_volume_write(v, 0, b, 0);
     mirror_volume_survey(v, list, 0, words);
 }

@@ -67,10 +67,11 @@ static struct mirror_volume volume_in(const Buffers *b)
 /* ---- what is called */
 
 /* Those before KEYED take the key and the volume's number. */
-enum { BLANK, FIRST, SECOND, THIRD, READ, MEND, SURVEY, KEYED, START = KEYED, COUNT_SUSPECTS, CALLS };
-static const char *const NAMES[CALLS] = {"mirror_volume_blank",       "mirror_volume_first_stage", "mirror_volume_second_stage",
-                                         "mirror_volume_third_stage", "mirror_volume_read",        "mirror_volume_mend",
-                                         "mirror_volume_survey",      "mirror_volume_start_map",   "mirror_volume_count_suspects"};
+enum { BLANK, FIRST, SECOND, THIRD, READ, MEND, WRITE, SURVEY, KEYED, START = KEYED, COUNT_SUSPECTS, CALLS };
+static const char *const NAMES[CALLS] = {"mirror_volume_blank",         "mirror_volume_first_stage", "mirror_volume_second_stage",
+                                         "mirror_volume_third_stage",   "mirror_volume_read",        "mirror_volume_mend",
+                                         "mirror_volume_write",         "mirror_volume_survey",      "mirror_volume_start_map",
+                                         "mirror_volume_count_suspects"};
 
 /* The arguments beside the volume. One of them may be wrong. */
 typedef struct {
@@ -98,6 +99,8 @@ static uint32_t by_call(int which, struct mirror_volume v, const Others *o, cons
         return mirror_read(NAMED, o->number, IMAGES, OUTPUT);
     case MEND:
         return mirror_mend(NAMED, o->number, IMAGES);
+    case WRITE:
+        return mirror_write(NAMED, o->number, PLAINTEXT, IMAGES);
     case SURVEY:
         return mirror_survey(NAMED, IMAGES, ENTRIES);
     case START:
@@ -122,6 +125,8 @@ static uint32_t by_struct(int which, const struct mirror_volume *v, const Others
         return mirror_volume_read(v, o->number, OUTPUT);
     case MEND:
         return mirror_volume_mend(v, o->number);
+    case WRITE:
+        return mirror_volume_write(v, o->number, PLAINTEXT);
     case SURVEY:
         return mirror_volume_survey(v, ENTRIES);
     case START:
@@ -257,6 +262,7 @@ static int mark(int which, uint32_t answer)
     case THIRD:
         return answer == MIRROR_DONE ? CLEARS : LEAVES;
     case MEND:
+    case WRITE:
         return answer == MIRROR_WHOLE || doubtful ? CLEARS : unreadable ? SETS : LEAVES;
     case FIRST:
     case SECOND:
@@ -342,6 +348,7 @@ static const struct {
                      {SECOND_DONE, MIRROR_REFUSED_STAGE_ORDER},
                      {WHOLE, MIRROR_REFUSED_LOST},
                      {WHOLE, MIRROR_REFUSED_LOST},
+                     {WHOLE, MIRROR_REFUSED_LOST},
                      {WHOLE, MIRROR_DONE}};
 
 /* A function that handed on 0 in place of the struct's number would do what the call does under 0. That is something else. */
@@ -375,6 +382,7 @@ static void each_answer(void)
                                                {1, 2, 8, 13, 9, 3, 10},
                                                {1, 2, 8, 13, 9, 3, 6, 7, 0x81, 0x82, 0x83},
                                                {1, 2, 8, 13, 9, 6, 7, 0x81, 0x82, 0x83},
+                                               {1, 2, 8, 13, 9, 3, 6, 7, 0x81, 0x82, 0x83},
                                                {1, 2, 8, 13, 11},
                                                {8, 13},
                                                {8, 13}};
