@@ -11,10 +11,11 @@
 #include <ucontext.h>
 
 /*
- * OTHERS is what the header says of every call but the survey. ARRAYS is what the survey needs at least: three arrays of a sector's bytes
- * to judge in, and three maps with a bit for each sector. If it seems to use less, this program does not measure.
+ * WRITES and OTHERS are what the header says of mirror_write and of every call but it and the survey. ARRAYS is what the survey needs at
+ * least: three arrays of a sector's bytes to judge in, and three maps with a bit for each sector. If it seems to use less, this program
+ * does not measure.
  */
-enum { OTHERS = 20480, ARRAYS = 3 * MIRROR_SECTOR_BYTES_MAX + 3 * (MIRROR_VOLUME_SECTORS_MAX / 8) };
+enum { WRITES = 24576, OTHERS = 20480, ARRAYS = 3 * MIRROR_SECTOR_BYTES_MAX + 3 * (MIRROR_VOLUME_SECTORS_MAX / 8) };
 enum { ROOM = 131072, PAINT = 0xa5, TAG = MIRROR_TAG_BYTES };
 
 static uint8_t key[MIRROR_KEY_BYTES];
@@ -41,6 +42,7 @@ static void second(void) { answer = mirror_second_stage(KEYED, size, 1, 0, plain
 static void third(void) { answer = mirror_third_stage(KEYED, size, 1, 0, plain, size, local, size, tag, TAG, remote, size, MAP); }
 static void read(void) { answer = mirror_read(KEYED, size, 1, 0, local, size, tag, TAG, remote, size, MAP, out, size); }
 static void mend(void) { answer = mirror_mend(KEYED, size, 1, 0, local, size, tag, TAG, remote, size, MAP); }
+static void write(void) { answer = mirror_write(KEYED, size, 1, 0, plain, size, local, size, tag, TAG, remote, size, MAP); }
 static void survey(void) { answer = mirror_survey(KEYED, size, 1, local, size, tag, TAG, remote, size, MAP, list, 1, counts); }
 static void start(void) { answer = mirror_start_map(LARGEST_MAP); }
 static void count(void) { answer = mirror_count_suspects(LARGEST_MAP, &suspects); }
@@ -53,8 +55,8 @@ typedef struct {
 
 static Call calls[] = {{"seal", seal, 0},         {"judge", judge, 0},         {"open", open, 0},         {"rebuild", rebuild, 0},
                        {"combine", combine, 0},   {"blank", blank, 0},         {"first_stage", first, 0}, {"second_stage", second, 0},
-                       {"third_stage", third, 0}, {"read", read, 0},           {"mend", mend, 0},         {"survey", survey, 0},
-                       {"start_map", start, 0},   {"count_suspects", count, 0}};
+                       {"third_stage", third, 0}, {"read", read, 0},           {"mend", mend, 0},         {"write", write, 0},
+                       {"survey", survey, 0},     {"start_map", start, 0},     {"count_suspects", count, 0}};
 enum { CALLS = sizeof calls / sizeof calls[0] };
 
 static uint8_t *stack;
@@ -158,7 +160,8 @@ int main(void)
     free(stack);
     for (i = 0; i < CALLS; i++) {
         const int surveys = calls[i].run == survey;
-        const unsigned long most = (unsigned long)calls[i].most, bound = surveys ? MIRROR_STACK_BYTES : OTHERS;
+        const unsigned long most = (unsigned long)calls[i].most;
+        const unsigned long bound = surveys ? MIRROR_STACK_BYTES : calls[i].run == write ? WRITES : OTHERS;
         printf("stack: mirror_%s uses at most %lu bytes\n", calls[i].name, most);
         if (most >= bound) {
             fprintf(stderr, "stack: mirror_%s uses %lu bytes, and the header says less than %lu\n", calls[i].name, most, bound);
