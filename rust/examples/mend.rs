@@ -1,5 +1,6 @@
-//! A small volume: blanked, written in three stages, damaged, judged, mended
-//! and surveyed. Each survey is printed with the suspects by the map.
+//! A small volume: blanked, written in three stages, damaged, judged, mended,
+//! surveyed, and written in one call. Each survey is printed with the suspects by
+//! the map.
 //!
 //! `cargo run --example mend`
 
@@ -74,7 +75,11 @@ fn lose(volume: &mut Volume) -> Result<(), Refusal> {
     }
     show(volume, "the damage met")?;
     volume.blank(3)?;
-    show(volume, "sector 3 blanked")
+    show(volume, "sector 3 blanked")?;
+    // In one call: nothing is written out here. See `Volume::write` for when it may
+    // be used.
+    let found = volume.write(3, &[3; SIZE])?;
+    show(volume, &format!("sector 3, which was {found}, written"))
 }
 
 /// Prints a survey, and the suspects by the map.

@@ -71,9 +71,9 @@ impl fmt::Display for Verdict {
 }
 
 /// Why a call was turned away. It has changed nothing that it was lent, but for
-/// one bit: where [`read`](crate::Volume::read) or [`mend`](crate::Volume::mend)
-/// answers [`Lost`](Self::Lost) or [`Clashing`](Self::Clashing), the sector's bit
-/// of the map is set.
+/// one bit: where [`read`](crate::Volume::read), [`mend`](crate::Volume::mend) or
+/// [`write`](crate::Volume::write) answers [`Lost`](Self::Lost) or
+/// [`Clashing`](Self::Clashing), the sector's bit of the map is set.
 ///
 /// The text ([`Display`](fmt::Display)) says what is wrong and what to do.
 ///

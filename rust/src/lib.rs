@@ -20,11 +20,12 @@
 //! Lengths and numbers are not asked of the caller: every value is safe, and a
 //! wrong one is refused. Every volume's number and every address is accepted.
 //! Each call lists its refusals in the order in which it checks them. **A refused
-//! call has changed no byte that it was lent**, but for one bit: where a read or a
-//! mend answers [`Lost`](Refusal::Lost) or [`Clashing`](Refusal::Clashing), it has
-//! set the sector's bit of the map. What the calls answer is proved of the library
-//! (`libmirror.a`, for x86-64 Linux); this crate only hands slices over and names
-//! the answers, and is tested, not proved.
+//! call has changed no byte that it was lent**, but for one bit: where a read, a
+//! mend or a write in one call answers [`Lost`](Refusal::Lost) or
+//! [`Clashing`](Refusal::Clashing), it has set the sector's bit of the map. What
+//! the calls answer is proved of the library (`libmirror.a`, for x86-64 Linux);
+//! this crate only hands slices over and names the answers, and is tested, not
+//! proved.
 //!
 //! # One sector
 //!
@@ -50,7 +51,8 @@
 //! # A volume
 //!
 //! A write is three stages with one plaintext, and what each wrote is on the
-//! medium before the next begins ([Power cuts](#power-cuts)). Images and map of a
+//! medium before the next begins ([Power cuts](#power-cuts)); where power cannot go
+//! within a call, it may be [one call](#a-write-in-one-call). Images and map of a
 //! [`Volume`] are lent or owned. Here `write_out` stands for what writes a part to
 //! the medium and flushes it.
 //!
@@ -104,11 +106,11 @@
 //! | call | answer | the sector's bit |
 //! |---|---|---|
 //! | blank, third stage | done | cleared |
-//! | mend | any verdict | cleared |
+//! | mend, write in one call | any verdict | cleared |
 //! | first stage, second stage | done | set |
 //! | read | whole | cleared |
 //! | read | doubtful | set |
-//! | read, mend | refused: [`Lost`](Refusal::Lost), [`Clashing`](Refusal::Clashing) | set |
+//! | read, mend, write in one call | refused: [`Lost`](Refusal::Lost), [`Clashing`](Refusal::Clashing) | set |
 //! | any of these | another refusal, also [`StageOrder`](Refusal::StageOrder) on a lost sector | as it was |
 //!
 //! No other bit changes. A survey checks the map's length and leaves the map
@@ -190,6 +192,31 @@
 //! volume's number; the address is the sector's number) gives the local sector
 //! that belongs there.
 //!
+//! # A write in one call
+//!
+//! [`Volume::write`] reads a sector, mends it if it is doubtful, and makes the
+//! three stages. A power cut in it is a cut in one of these calls, or between two: a
+//! sector that held a plaintext and did not clash then holds the old one or the new
+//! one, on the same premise as above. What each of these calls wrote has landed
+//! before the next writes, and a tag lands whole; but the caller cannot flush in
+//! between. So it is for these two cases only:
+//!
+//! - **Power cannot go within the call.** A battery lasts until the call has
+//!   answered and what it stored is safe; or the images are in memory and are saved
+//!   between calls, all three in one step that is done whole or not at all.
+//! - **The images are themselves the medium**, as in persistent memory, and there
+//!   what each of these calls stores lands before what the next one stores, and a
+//!   tag at once. The library does nothing for that: its stores are ordinary ones,
+//!   without flush or fence, the compiler may reorder them within the call, and a tag
+//!   may be stored byte by byte. Unless all this is known to be right on a platform,
+//!   take the first case alone. A shared mapping of files is no such medium: its
+//!   pages reach the disk in any order.
+//!
+//! Whoever brings the images to a disk by writing out and flushing needs the three
+//! stages, with a flush after each. After a write in one call all three places
+//! differ from the disk at once: a cut while they are written out can lose the
+//! sector, and no order of writing them out is right for every verdict.
+//!
 //! # Secrets
 //!
 //! Local and remote sector together give the plaintext **without** the key
@@ -204,13 +231,13 @@
 //! # Memory and threads
 //!
 //! A call keeps no state and allocates nothing. [`Volume::survey`] uses less than
-//! 48 KiB of stack, every other call less than 20 KiB (measured, not proved). A
-//! call may be made from any thread. A call on one sector borrows the whole volume
-//! by `&mut`, and so does a read, since it writes the map: on one volume only
-//! surveys and looks at the map run at once. To read in several threads, make a
-//! volume for each over the same images, lent as `&[u8]`, with a map of its own.
-//! Such a map says what its own reads have met; start it anew when the images have
-//! been written.
+//! 48 KiB of stack, [`Volume::write`] less than 24 KiB, every other call less than
+//! 20 KiB (measured, not proved). A call may be made from any thread. A call on
+//! one sector borrows the whole volume by `&mut`, and so does a read, since it
+//! writes the map: on one volume only surveys and looks at the map run at once. To
+//! read in several threads, make a volume for each over the same images, lent as
+//! `&[u8]`, with a map of its own. Such a map says what its own reads have met;
+//! start it anew when the images have been written.
 //!
 //! # The library
 //!

@@ -535,6 +535,72 @@ impl<I: AsRef<[u8]> + AsMut<[u8]>, M: AsMut<[u64]>> Volume<'_, I, M> {
             )
         })
     }
+
+    /// Writes one sector in one call: [reads](Self::read) it, [mends](Self::mend)
+    /// it if it is doubtful, and makes the three stages with the plaintext.
+    ///
+    /// The verdict is what it found before. A doubtful one is no failure: the
+    /// plaintext is written then too. Afterwards the sector is whole, sealed as the
+    /// plaintext in all three places, and its bit of the map is clear.
+    ///
+    /// **It is for where power cannot go within the call**: a battery lasts until
+    /// what it stored is safe, or the images are in memory and are saved between
+    /// calls, all three in one step that is done whole or not at all. Where images
+    /// are written out to a medium part by part, use the three stages with a flush
+    /// after each. See [a write in one call](crate#a-write-in-one-call).
+    ///
+    /// ```
+    /// use mirror::{Place, Refusal, Verdict, Volume, KEY_BYTES};
+    ///
+    /// let key = [7; KEY_BYTES];
+    /// let mut volume = Volume::new(&key, 1, 16, 4, [0; 64], [0; 64], [0; 64], [0]);
+    /// volume.start_map()?;
+    /// volume.blank(2)?;
+    /// assert_eq!(volume.write(2, &[42; 16])?, Verdict::Whole);
+    /// volume.tags_mut()[2 * 16] ^= 1;
+    /// assert_eq!(volume.write(2, &[43; 16])?, Verdict::Doubtful(Place::Tag));
+    ///
+    /// let mut output = [0; 16];
+    /// assert_eq!(volume.read(2, &mut output)?, Verdict::Whole);
+    /// assert_eq!(output, [43; 16]);
+    /// assert_eq!(volume.write(3, &[44; 16]), Err(Refusal::Lost)); // never blanked
+    /// # Ok::<(), Refusal>(())
+    /// ```
+    ///
+    /// # Errors
+    ///
+    /// Those of [`blank`](Self::blank), [`MapLength`](Refusal::MapLength) among
+    /// them, then in this order: [`OtherLength`](Refusal::OtherLength) of the
+    /// plaintext; [`Lost`](Refusal::Lost); [`Clashing`](Refusal::Clashing). The last
+    /// two set the sector's bit of the map, and change nothing else. No stage in it
+    /// refuses, so [`StageOrder`](Refusal::StageOrder) never comes.
+    pub fn write(&mut self, number: usize, plaintext: &[u8]) -> Result<Verdict, Refusal> {
+        let local = self.local.as_mut();
+        let tags = self.tags.as_mut();
+        let remote = self.remote.as_mut();
+        let map = self.map.as_mut();
+        // SAFETY: as in `blank`.
+        judged(unsafe {
+            ffi::mirror_write(
+                self.key.as_ptr(),
+                self.key.len(),
+                self.number,
+                self.size,
+                self.count,
+                number,
+                plaintext.as_ptr(),
+                plaintext.len(),
+                local.as_mut_ptr(),
+                local.len(),
+                tags.as_mut_ptr(),
+                tags.len(),
+                remote.as_mut_ptr(),
+                remote.len(),
+                map.as_mut_ptr(),
+                map.len(),
+            )
+        })
+    }
 }
 
 /// What a survey counts. The first four add up to the count of sectors. The list

@@ -175,6 +175,8 @@ fn a_call_asks_for_each_image_and_for_the_map_once() {
     once();
     assert_eq!(volume.mend(2), Ok(Verdict::Whole));
     once();
+    assert_eq!(volume.write(2, &plaintext), Ok(Verdict::Whole));
+    once();
     assert!(volume.survey(&mut [0; COUNT]).is_ok());
     once();
     assert_eq!(volume.count_suspects(), Ok(0));

@@ -36,6 +36,7 @@ enum Call {
     Third,
     Read,
     Mend,
+    Write,
 }
 
 /// What a call does to its sector's bit.
@@ -61,7 +62,7 @@ const EARLY: Answer = Err(Refusal::StageOrder);
 type Mark = (Call, Before, Answer, Bit);
 
 #[rustfmt::skip]
-const MARKS: [Mark; 26] = [
+const MARKS: [Mark; 34] = [
     (Call::Blank, Before::Whole, WHOLE, Bit::Cleared),
     (Call::Blank, Before::Lost, WHOLE, Bit::Cleared),
     (Call::Third, Before::SecondStage, WHOLE, Bit::Cleared),
@@ -69,6 +70,12 @@ const MARKS: [Mark; 26] = [
     (Call::Mend, Before::Doubtful(Place::Local), LOCAL, Bit::Cleared),
     (Call::Mend, Before::Doubtful(Place::Tag), TAG, Bit::Cleared),
     (Call::Mend, Before::Doubtful(Place::Remote), REMOTE, Bit::Cleared),
+    (Call::Write, Before::Whole, WHOLE, Bit::Cleared),
+    (Call::Write, Before::Doubtful(Place::Local), LOCAL, Bit::Cleared),
+    (Call::Write, Before::Doubtful(Place::Tag), TAG, Bit::Cleared),
+    (Call::Write, Before::Doubtful(Place::Remote), REMOTE, Bit::Cleared),
+    (Call::Write, Before::FirstStage, LOCAL, Bit::Cleared),
+    (Call::Write, Before::SecondStage, REMOTE, Bit::Cleared),
     (Call::First, Before::Whole, WHOLE, Bit::Set),
     (Call::Second, Before::FirstStage, WHOLE, Bit::Set),
     (Call::Read, Before::Whole, WHOLE, Bit::Cleared),
@@ -79,6 +86,8 @@ const MARKS: [Mark; 26] = [
     (Call::Read, Before::Clashing, CLASHING, Bit::Set),
     (Call::Mend, Before::Lost, LOST, Bit::Set),
     (Call::Mend, Before::Clashing, CLASHING, Bit::Set),
+    (Call::Write, Before::Lost, LOST, Bit::Set),
+    (Call::Write, Before::Clashing, CLASHING, Bit::Set),
     (Call::First, Before::Doubtful(Place::Local), EARLY, Bit::AsItWas),
     (Call::First, Before::Lost, EARLY, Bit::AsItWas),
     (Call::First, Before::Clashing, EARLY, Bit::AsItWas),
@@ -139,6 +148,7 @@ fn make(call: Call, volume: &mut Owned, number: usize, bytes: &mut [u8]) -> Answ
         Call::Third => done(volume.third_stage(number, bytes)),
         Call::Read => volume.read(number, bytes),
         Call::Mend => volume.mend(number),
+        Call::Write => volume.write(number, bytes),
     }
 }
 
@@ -186,13 +196,14 @@ fn each_call_marks_its_sector_by_its_answer() {
     }
 }
 
-const CALLS: [Call; 6] = [
+const CALLS: [Call; 7] = [
     Call::Blank,
     Call::First,
     Call::Second,
     Call::Third,
     Call::Read,
     Call::Mend,
+    Call::Write,
 ];
 
 /// A call on a lost sector that is refused for its arguments.
@@ -267,6 +278,12 @@ fn suspects_of_a_volume() {
     assert_eq!(volume.second_stage(65, &plaintext), Ok(()));
     assert_eq!(suspects(&volume), [0, 0b10, 0]);
     assert_eq!(volume.third_stage(65, &plaintext), Ok(()));
+    assert_eq!(suspects(&volume), [0; 3]);
+
+    // A write in one call clears the bit, whatever it was.
+    assert_eq!(volume.first_stage(66, &plaintext), Ok(()));
+    assert_eq!(suspects(&volume), [0, 0b100, 0]);
+    assert_eq!(volume.write(66, &bytes(3)), LOCAL);
     assert_eq!(suspects(&volume), [0; 3]);
 
     // Damage shows once a call has met it.

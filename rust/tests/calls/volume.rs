@@ -96,6 +96,109 @@ fn a_write_in_three_stages() {
     assert_eq!(images, due);
 }
 
+/// Damages one place of sector 1.
+fn damage(images: &mut Images, place: Place) {
+    match place {
+        Place::Local => images.local[SIZE + 5] ^= 1,
+        Place::Tag => images.tags[TAG_BYTES + 5] ^= 1,
+        Place::Remote => images.remote[SIZE + 5] ^= 1,
+    }
+}
+
+/// The verdict is the one found. Whatever it was, the sector is afterwards as the
+/// plaintext seals, its bit is clear, and all else is as before.
+#[test]
+fn a_write_in_one_call() {
+    let (key, plaintext) = (key(), bytes(1));
+    let places = [Place::Local, Place::Tag, Place::Remote].map(Some);
+    for place in [None].into_iter().chain(places) {
+        let found = place.map_or(Verdict::Whole, Verdict::Doubtful);
+        for map in [0b000, 0b111] {
+            let mut images = Images::blanked();
+            images.map = vec![map];
+            let mut due = images.clone();
+            due.put(1, &sealed(1, &plaintext));
+            due.map = vec![map & !0b010];
+            if let Some(place) = place {
+                damage(&mut images, place);
+            }
+            assert_eq!(images.volume(&key).write(1, &plaintext), Ok(found));
+            assert_eq!(images, due, "{found}");
+        }
+    }
+}
+
+/// What another write left behind is doubtful, and is mended on the way.
+#[test]
+fn a_write_in_one_call_over_one_that_was_left() {
+    let (key, left, plaintext) = (key(), bytes(1), bytes(2));
+    for (stages, found) in [(1, Place::Local), (2, Place::Remote)] {
+        let mut images = Images::blanked();
+        let mut volume = images.volume(&key);
+        assert_eq!(volume.first_stage(1, &left), Ok(()));
+        if stages == 2 {
+            assert_eq!(volume.second_stage(1, &left), Ok(()));
+        }
+        let found = Ok(Verdict::Doubtful(found));
+        assert_eq!(volume.write(1, &plaintext), found);
+        let mut due = Images::blanked();
+        due.put(1, &sealed(1, &plaintext));
+        assert_eq!(images, due);
+    }
+}
+
+/// Writes one place of sector 1 out from memory to the medium, or as a cut leaves
+/// it: a side may hold anything, here zeros, and a tag is the old one or the new.
+fn write_out(medium: &mut Images, memory: &Images, place: Place, cut: bool) {
+    let (side, tag) = (SIZE..2 * SIZE, TAG_BYTES..2 * TAG_BYTES);
+    let (to, from) = match place {
+        Place::Local => (&mut medium.local[side.clone()], &memory.local[side]),
+        Place::Tag => (&mut medium.tags[tag.clone()], &memory.tags[tag]),
+        Place::Remote => (&mut medium.remote[side.clone()], &memory.remote[side]),
+    };
+    match (cut, place) {
+        (true, Place::Tag) => {}
+        (true, _) => to.fill(0),
+        (false, _) => to.copy_from_slice(from),
+    }
+}
+
+/// Whether no cut loses sector 1 where its places are written out in this order,
+/// each flushed before the next.
+fn is_right(order: [Place; 3], medium: &Images, memory: &Images) -> bool {
+    let (key, mut medium) = (key(), medium.clone());
+    order.into_iter().all(|place| {
+        [true, false].into_iter().all(|cut| {
+            write_out(&mut medium, memory, place, cut);
+            let read = medium.clone().volume(&key).read(1, &mut [0; SIZE]);
+            read != Err(Refusal::Lost)
+        })
+    })
+}
+
+/// Why images that are written out part by part need the three stages: after a
+/// write in one call that has mended a tag, no order of writing out is right.
+#[test]
+fn after_a_write_in_one_call_an_order_may_lose_the_sector() {
+    const ORDERS: [[Place; 3]; 6] = [
+        [Place::Local, Place::Tag, Place::Remote],
+        [Place::Local, Place::Remote, Place::Tag],
+        [Place::Tag, Place::Local, Place::Remote],
+        [Place::Tag, Place::Remote, Place::Local],
+        [Place::Remote, Place::Local, Place::Tag],
+        [Place::Remote, Place::Tag, Place::Local],
+    ];
+    let right = |medium: &Images| {
+        let mut memory = medium.clone();
+        assert!(memory.volume(&key()).write(1, &bytes(1)).is_ok());
+        ORDERS.map(|order| is_right(order, medium, &memory))
+    };
+    let mut medium = Images::blanked();
+    assert_eq!(right(&medium), [true, false, false, false, false, true]);
+    damage(&mut medium, Place::Tag);
+    assert_eq!(right(&medium), [false; 6]);
+}
+
 /// A volume whose sector 1 has a plaintext, and is about to be given another of
 /// the same tag. They differ in both halves of block 2.
 fn before_a_write_of_equal_tag() -> (Images, Vec<u8>, Vec<u8>) {
@@ -107,11 +210,12 @@ fn before_a_write_of_equal_tag() -> (Images, Vec<u8>, Vec<u8>) {
     (images, old, new)
 }
 
-/// Neither read nor mend, and no first stage.
+/// Neither read nor mend, nor a write in one call, and no first stage.
 fn insist_on_clash(volume: &mut Lent, plaintext: &[u8]) {
     let clashing = Err(Refusal::Clashing);
     assert_eq!(volume.read(1, &mut [0; SIZE]), clashing);
     assert_eq!(volume.mend(1), clashing);
+    assert_eq!(volume.write(1, plaintext), clashing);
     let early = Err(Refusal::StageOrder);
     assert_eq!(volume.first_stage(1, plaintext), early);
 }
@@ -131,6 +235,17 @@ fn a_clash_between_stages_ends_with_the_third() {
     let mut output = [0; SIZE];
     assert_eq!(volume.read(1, &mut output), Ok(Verdict::Whole));
     assert_eq!(output[..], new);
+}
+
+/// Its own stages do not stop where the sector clashes between them.
+#[test]
+fn a_write_in_one_call_of_equal_tag() {
+    let key = key();
+    let (mut images, _, new) = before_a_write_of_equal_tag();
+    let mut due = images.clone();
+    due.put(1, &sealed(1, &new));
+    assert_eq!(images.volume(&key).write(1, &new), Ok(Verdict::Whole));
+    assert_eq!(images, due);
 }
 
 /// A first stage that is cut within block 2 leaves the local sector of a third
@@ -182,6 +297,7 @@ fn a_volume_under_another_number() {
         assert_eq!(volume.read(1, &mut output), Err(Refusal::Lost));
         assert_eq!(output, [0xee; SIZE]);
         assert_eq!(volume.mend(1), Err(Refusal::Lost));
+        assert_eq!(volume.write(1, &plaintext), Err(Refusal::Lost));
         let early = Err(Refusal::StageOrder);
         assert_eq!(volume.first_stage(1, &plaintext), early);
         assert_eq!(volume.second_stage(1, &plaintext), early);
@@ -254,6 +370,9 @@ fn lost_and_clashing_change_one_bit() {
         let mut mended = damaged();
         let answer = mended.volume(&key).mend(number);
         assert_eq!((answer, &mended), (Err(refusal), &due));
+        let mut written = damaged();
+        let answer = written.volume(&key).write(number, &bytes(5));
+        assert_eq!((answer, &written), (Err(refusal), &due));
     }
 }
 
@@ -358,9 +477,9 @@ fn by_kind_of_counts_beyond_every_list() {
     counted(1, usize::MAX, usize::MAX).by_kind(&[1, 2, 3]);
 }
 
-/// The answers of the seven calls on a volume, with an output and a plaintext of
+/// The answers of the eight calls on a volume, with an output and a plaintext of
 /// no bytes and a list of no entries.
-fn refusals(volume: &mut Lent, number: usize) -> [Option<Refusal>; 7] {
+fn refusals(volume: &mut Lent, number: usize) -> [Option<Refusal>; 8] {
     [
         volume.blank(number).err(),
         volume.mend(number).err(),
@@ -368,6 +487,7 @@ fn refusals(volume: &mut Lent, number: usize) -> [Option<Refusal>; 7] {
         volume.second_stage(number, &[]).err(),
         volume.third_stage(number, &[]).err(),
         volume.read(number, &mut []).err(),
+        volume.write(number, &[]).err(),
         volume.survey(&mut []).err(),
     ]
 }
@@ -376,16 +496,16 @@ fn refusals(volume: &mut Lent, number: usize) -> [Option<Refusal>; 7] {
 /// whatever else is wrong.
 fn insist_on_first_refusals(images: &mut Images) {
     let key = key();
-    let due = [Some(Refusal::VolumeShape); 7];
+    let due = [Some(Refusal::VolumeShape); 8];
     for count in [0, COUNT + 1, VOLUME_SECTORS_MAX + 1] {
         let volume = &mut images.of_shape(&key, SIZE, count);
         assert_eq!(refusals(volume, usize::MAX), due);
     }
     let volume = &mut images.of_shape(&key, 15, VOLUME_SECTORS_MAX + 1);
-    let due = [Some(Refusal::SectorSize); 7];
+    let due = [Some(Refusal::SectorSize); 8];
     assert_eq!(refusals(volume, usize::MAX), due);
     let volume = &mut images.of_shape(&key[1..], 15, VOLUME_SECTORS_MAX + 1);
-    let due = [Some(Refusal::KeyLength); 7];
+    let due = [Some(Refusal::KeyLength); 8];
     assert_eq!(refusals(volume, usize::MAX), due);
 }
 
@@ -394,7 +514,7 @@ fn refusals_in_order() {
     let key = key();
     let mut images = damaged();
     let [_, _, others @ .., survey] = refusals(&mut images.volume(&key), COUNT - 1);
-    assert_eq!(others, [Some(Refusal::OtherLength); 4]);
+    assert_eq!(others, [Some(Refusal::OtherLength); 5]);
     assert_eq!(survey, Some(Refusal::ListLength));
 
     // From here on every call is refused.
@@ -402,7 +522,7 @@ fn refusals_in_order() {
         images.map = vec![map];
         let before = images.clone();
         let [others @ .., _] = refusals(&mut images.volume(&key), COUNT);
-        assert_eq!(others, [Some(Refusal::SectorNumber); 6]);
+        assert_eq!(others, [Some(Refusal::SectorNumber); 7]);
         insist_on_first_refusals(&mut images);
         assert_eq!(images, before);
     }
@@ -417,7 +537,7 @@ fn a_map_of_another_length_is_refused_in_order() {
         images.map = map;
         let before = images.clone();
         for number in [0, COUNT] {
-            let due = [Some(Refusal::MapLength); 7];
+            let due = [Some(Refusal::MapLength); 8];
             assert_eq!(refusals(&mut images.volume(&key), number), due);
         }
         insist_on_first_refusals(&mut images);
@@ -437,6 +557,7 @@ fn refused_calls_change_nothing() {
         assert_eq!(volume.first_stage(0, plaintext), due);
         assert_eq!(volume.second_stage(0, plaintext), due);
         assert_eq!(volume.third_stage(0, plaintext), due);
+        assert_eq!(volume.write(0, plaintext).map(|_| ()), due);
     }
     assert_eq!(images, Images::blanked());
 }
