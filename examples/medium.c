@@ -106,7 +106,8 @@ static void make(const char *path)
     need(fsync(folder) == 0 && close(folder) == 0, "flushing the folder has failed");
 }
 
-/* A write: a stage begins only when what the one before wrote is on the medium. */
+/* A write: a stage begins only when what the one before wrote is on the medium. mirror_write leaves no time to flush between the stages, so
+ * it is not for files. */
 static void write_stages(size_t number, const uint8_t plain[SIZE], int stages)
 {
     expect("first stage", mirror_volume_first_stage(&volume, number, plain, SIZE), MIRROR_DONE);

@@ -1,5 +1,5 @@
-/* A volume of four sectors: one is written, damaged, read and mended, and a map of the suspect sectors is kept meanwhile. Build and run it
- * from the root of the source tree, PREFIX being a folder of your choice, as an absolute path:
+/* A volume of four sectors: one is written, damaged, read, mended and written again in one call, and a map of the suspect sectors is kept
+ * meanwhile. Build and run it from the root of the source tree, PREFIX being a folder of your choice, as an absolute path:
  *
  *   scripts/install PREFIX
  *   export PKG_CONFIG_PATH=PREFIX/lib/pkgconfig
@@ -75,7 +75,7 @@ static void expect_suspects(uint64_t due)
 
 int main(void)
 {
-    static const uint8_t plain[SIZE] = "what the sector holds";
+    static const uint8_t plain[SIZE] = "what the sector holds", next_plain[SIZE] = "what it holds next";
     if (mirror_version() != MIRROR_VERSION) {
         fprintf(stderr, "the library is of another release than the header, which is of " MIRROR_VERSION_TEXT "\n");
         return 1;
@@ -95,6 +95,13 @@ int main(void)
     expect_suspects(1);
     expect("mend, which has found", mirror_volume_mend(&volume, NUMBER), MIRROR_DOUBTFUL_REMOTE);
     read_sector(NUMBER, MIRROR_WHOLE, plain);
+    expect_suspects(0);
+
+    tags[NUMBER * MIRROR_TAG_BYTES] ^= 1;
+    puts("a bit of the tag is damaged, and the sector is written in one call: it is mended on the way");
+    /* In one call, since nothing is written out here. When it may be used is said at mirror_write in mirror.h. */
+    expect("write, which has found", mirror_volume_write(&volume, NUMBER, next_plain, SIZE), MIRROR_DOUBTFUL_TAG);
+    read_sector(NUMBER, MIRROR_WHOLE, next_plain);
     expect_suspects(0);
     return 0;
 }
