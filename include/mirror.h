@@ -105,7 +105,7 @@
  *   - A write is the three stages, with a flush after each. mirror_write, which makes them in one call, leaves no time to flush in between:
  *     it is for where power cannot go within a call. What it asks for stands there.
  *
- * FROM 0.6.0 AND 0.5.0. mirror_write is new, and nothing else changes.
+ * FROM 0.6.0 AND 0.5.0. mirror_write is new; no other call and no stored byte changes.
  *
  * FROM 0.4.0, and from 0.3.0, which has the same calls. Every call on a volume takes the map: `map, map_len` behind `remote_len`. No stored
  * byte changes. A program has to do this:
@@ -389,7 +389,7 @@ MIRROR_ANSWER mirror_mend(const uint8_t *key, size_t key_len, uint64_t volume, s
  * order of writing them out is right for every answer. After a cut, where one was possible, go by "After a cut in a write" above.
  *   1, 2, 8, 13, 9 as mirror_blank
  *   3 plain_len is not s
- *   6 lost: the sector's bit in the map is set, and nothing else has changed
+ *   6 lost, as is a sector that was never blanked: the sector's bit in the map is set, and nothing else has changed
  *   7 clashing: the same
  *   MIRROR_WHOLE: the plaintext is written, and the bit is cleared
  *   MIRROR_DOUBTFUL_LOCAL, MIRROR_DOUBTFUL_TAG, MIRROR_DOUBTFUL_REMOTE: the same; that place had been damaged, or a write was left there
