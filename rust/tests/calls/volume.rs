@@ -2,7 +2,7 @@
 
 use crate::common::{bytes, clashing, key, sealed, Triple, COUNT, SIZE, VOLUME};
 use mirror::{ByKind, Place, Refusal, Side, Survey, Verdict, Volume};
-use mirror::{TAG_BYTES, VOLUME_SECTORS_MAX};
+use mirror::{SECTOR_BYTES_MAX, SECTOR_BYTES_MIN, TAG_BYTES, VOLUME_SECTORS_MAX};
 
 /// A volume whose images and map are lent.
 type Lent<'a> = Volume<'a, &'a mut [u8], &'a mut [u64]>;
@@ -125,6 +125,28 @@ fn a_write_in_one_call() {
             assert_eq!(images.volume(&key).write(1, &plaintext), Ok(found));
             assert_eq!(images, due, "{found}");
         }
+    }
+}
+
+/// Its plaintext has the size of a sector, however much longer another one is.
+#[test]
+fn a_write_in_one_call_at_the_bounds_of_the_size() {
+    let key = key();
+    for size in [SECTOR_BYTES_MIN, SECTOR_BYTES_MAX] {
+        let (side, tag) = (vec![0; size], vec![0; TAG_BYTES]);
+        let mut volume = Volume::new(&key, VOLUME, size, 1, side.clone(), tag, side, [0]);
+        assert_eq!(volume.blank(0), Ok(()));
+        let blank = volume.clone().into_images();
+        let longer = [1, 16, SECTOR_BYTES_MAX].map(|more| SECTOR_BYTES_MAX + more);
+        for length in [0, size - 1, size + 1].into_iter().chain(longer) {
+            let refused = volume.write(0, &vec![1; length]);
+            assert_eq!(refused, Err(Refusal::OtherLength), "{length} of {size}");
+            assert_eq!(volume.clone().into_images(), blank);
+        }
+        let plaintext = vec![1; size];
+        assert_eq!(volume.write(0, &plaintext), Ok(Verdict::Whole));
+        let Triple { local, tag, remote } = sealed(0, &plaintext);
+        assert_eq!(volume.into_images(), (local, tag, remote));
     }
 }
 
