@@ -173,6 +173,38 @@ pub fn mend(
     Ok(verdict)
 }
 
+/// Writes a plaintext to one sector in one call: judges the sector, mends it if
+/// it is doubtful, and makes the three stages. Gives the verdict found first.
+/// The map is marked by these calls.
+pub fn write(
+    key: &[u8],
+    volume: u64,
+    size: usize,
+    count: usize,
+    local: &mut [u8],
+    tag: &mut [u8],
+    remote: &mut [u8],
+    map: &mut [u64],
+    number: usize,
+    plaintext: &[u8],
+) -> Result<Verdict, Refusal> {
+    let (v, s, n, i, text) = (volume, size, count, number, plaintext);
+    // The plaintext's length stands for that of the read's output.
+    let mut old = vec![0; text.len()];
+    let found = read(key, v, s, n, local, tag, remote, map, i, &mut old)?;
+    if found != Verdict::Whole {
+        let mended = mend(key, v, s, n, local, tag, remote, map, i);
+        assert_eq!(mended, Ok(found), "a mend says what the read said");
+    }
+    let stages = [
+        first_stage(key, v, s, n, local, tag, remote, map, i, text),
+        second_stage(key, v, s, n, local, tag, remote, map, i, text),
+        third_stage(key, v, s, n, local, tag, remote, map, i, text),
+    ];
+    assert_eq!(stages, [Ok(()); 3], "no stage of a write is refused");
+    Ok(found)
+}
+
 /// Judges every sector, counts the verdicts and lists, in repair order, the
 /// numbers of the sectors that are not whole: first the lost, then the
 /// clashing, then the doubtful, rising within each kind. The map it leaves

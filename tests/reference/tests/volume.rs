@@ -7,7 +7,7 @@ use reference::map;
 use reference::rng::Rng;
 use reference::seal::sealed;
 use reference::volume::{
-    blank, first_stage, mend, part, read, second_stage, survey, third_stage, Survey,
+    blank, first_stage, mend, part, read, second_stage, survey, third_stage, write, Survey,
 };
 
 const FILL: u8 = 0x5a;
@@ -127,6 +127,21 @@ impl Volume {
         mend(key, v, s, n, local, tag, remote, &mut self.map, number)
     }
 
+    fn write(&mut self, number: usize, plaintext: &[u8]) -> Result<Verdict, Refusal> {
+        write(
+            &self.key,
+            self.volume,
+            self.size,
+            self.count,
+            &mut self.local,
+            &mut self.tag,
+            &mut self.remote,
+            &mut self.map,
+            number,
+            plaintext,
+        )
+    }
+
     fn survey(&self, list: &mut [u32]) -> Result<Survey, Refusal> {
         survey(
             &self.key,
@@ -142,7 +157,7 @@ impl Volume {
     }
 
     /// All calls but survey, each on a copy, which a refusal must not change.
-    fn refusals(&self, number: usize, plaintext: usize) -> [u8; 6] {
+    fn refusals(&self, number: usize, plaintext: usize) -> [u8; 7] {
         let plaintext = vec![7; plaintext];
         let mut copy = self.clone();
         let mut output = plaintext.clone();
@@ -153,6 +168,7 @@ impl Volume {
             answer_number(&copy.third(number, &plaintext)),
             answer_number(&copy.read(number, &mut output)),
             answer_number(&copy.mend(number)),
+            answer_number(&copy.write(number, &plaintext)),
         ];
         assert_eq!(copy, *self);
         assert_eq!(output, plaintext);
@@ -457,32 +473,32 @@ fn refusals_in_order() {
     let mut bad_key = good.clone();
     for len in [0, 31, 33] {
         bad_key.key = vec![1; len];
-        assert_eq!(bad_key.refusals(0, 32), [1; 6]);
+        assert_eq!(bad_key.refusals(0, 32), [1; 7]);
         assert_eq!(bad_key.survey(&mut [0; 3]), Err(Refusal::KeyLength));
     }
     bad_key.size = 15;
     bad_key.count = 0;
-    assert_eq!(bad_key.refusals(9, 0), [1; 6]);
+    assert_eq!(bad_key.refusals(9, 0), [1; 7]);
 
     for size in [0, 15, 17, 4112] {
         let mut bad_size = Volume::random(&mut rng, size, 3);
-        assert_eq!(bad_size.refusals(0, size), [2; 6]);
+        assert_eq!(bad_size.refusals(0, size), [2; 7]);
         bad_size.count = 0;
-        assert_eq!(bad_size.refusals(9, 0), [2; 6]);
+        assert_eq!(bad_size.refusals(9, 0), [2; 7]);
         assert_eq!(bad_size.survey(&mut []), Err(Refusal::SectorSize));
     }
 
     for words in [0, 2, 3] {
         let mut bad_map = good.clone();
         bad_map.map.resize(words, 7);
-        assert_eq!(bad_map.refusals(0, 32), [13; 6]);
-        assert_eq!(bad_map.refusals(9, 31), [13; 6]);
+        assert_eq!(bad_map.refusals(0, 32), [13; 7]);
+        assert_eq!(bad_map.refusals(9, 31), [13; 7]);
         assert_eq!(bad_map.survey(&mut [0; 3]), Err(Refusal::MapLength));
         assert_eq!(bad_map.survey(&mut []), Err(Refusal::MapLength));
     }
 
     for number in [3, 4, usize::MAX] {
-        assert_eq!(good.refusals(number, 31), [9; 6]);
+        assert_eq!(good.refusals(number, 31), [9; 7]);
     }
 }
 
@@ -520,8 +536,8 @@ fn refusal_8_on_count_and_images() {
     for mut volume in bad {
         for words in [1, 0, 2] {
             volume.map.resize(words, 7);
-            assert_eq!(volume.refusals(usize::MAX, 31), [8; 6]);
-            assert_eq!(volume.refusals(0, 32), [8; 6]);
+            assert_eq!(volume.refusals(usize::MAX, 31), [8; 7]);
+            assert_eq!(volume.refusals(0, 32), [8; 7]);
             assert_eq!(volume.survey(&mut []), Err(Refusal::VolumeShape));
         }
     }
@@ -534,14 +550,14 @@ fn refusal_3_goes_before_6_7_and_10() {
     for number in [1, 2, 3] {
         for len in [0, 16, 31, 33, 48] {
             let answers = volume.clone().refusals_without_blank_and_mend(number, len);
-            assert_eq!(answers, [3; 4]);
+            assert_eq!(answers, [3; 5]);
         }
     }
 }
 
 impl Volume {
     /// The calls that take a plaintext or an output.
-    fn refusals_without_blank_and_mend(&mut self, number: usize, len: usize) -> [u8; 4] {
+    fn refusals_without_blank_and_mend(&mut self, number: usize, len: usize) -> [u8; 5] {
         let before = self.clone();
         let plaintext = vec![0; len];
         let mut output = vec![FILL; len];
@@ -550,6 +566,7 @@ impl Volume {
             answer_number(&self.second(number, &plaintext)),
             answer_number(&self.third(number, &plaintext)),
             answer_number(&self.read(number, &mut output)),
+            answer_number(&self.write(number, &plaintext)),
         ];
         assert_eq!(*self, before);
         assert_eq!(output, vec![FILL; len]);
@@ -557,8 +574,8 @@ impl Volume {
     }
 }
 
-/// Reads, mends and stages are refused and change nothing but that reads and mends
-/// make all sectors suspect, and a survey counts them all lost.
+/// Reads, mends, stages and writes are refused and change nothing but that all
+/// sectors are suspect then, and a survey counts them all lost.
 fn insist_on_foreign(volume: &Volume, plaintexts: &[Vec<u8>]) {
     let mut copy = volume.clone();
     let mut due = volume.clone();
@@ -572,6 +589,7 @@ fn insist_on_foreign(volume: &Volume, plaintexts: &[Vec<u8>]) {
             assert_eq!(copy.first(number, text), Err(Refusal::WrongStage));
             assert_eq!(copy.second(number, text), Err(Refusal::WrongStage));
             assert_eq!(copy.third(number, text), Err(Refusal::WrongStage));
+            assert_eq!(copy.write(number, text), Err(Refusal::Lost));
         }
     }
     let all: Vec<u32> = (0..volume.count as u32).collect();
@@ -681,13 +699,13 @@ fn refusals_in_order_under_a_number() {
             change(&mut changed);
             changed
         };
-        assert_eq!(with(|v| v.key = vec![1; 31]).refusals(9, 31), [1; 6]);
-        assert_eq!(with(|v| v.size = 31).refusals(9, 31), [2; 6]);
-        assert_eq!(with(|v| v.count += 1).refusals(9, 31), [8; 6]);
-        assert_eq!(with(|v| v.map.push(0)).refusals(9, 31), [13; 6]);
-        assert_eq!(volume.refusals(4, 31), [9; 6]);
+        assert_eq!(with(|v| v.key = vec![1; 31]).refusals(9, 31), [1; 7]);
+        assert_eq!(with(|v| v.size = 31).refusals(9, 31), [2; 7]);
+        assert_eq!(with(|v| v.count += 1).refusals(9, 31), [8; 7]);
+        assert_eq!(with(|v| v.map.push(0)).refusals(9, 31), [13; 7]);
+        assert_eq!(volume.refusals(4, 31), [9; 7]);
         let answers = volume.clone().refusals_without_blank_and_mend(0, 31);
-        assert_eq!(answers, [3; 4]);
+        assert_eq!(answers, [3; 5]);
         assert_eq!(volume.survey(&mut [0; 3]), Err(Refusal::ShortList));
     }
 }
