@@ -7,6 +7,7 @@
 //! put to the test.
 
 mod on_map;
+mod on_write;
 
 use std::collections::BTreeMap;
 
@@ -23,6 +24,7 @@ use crate::{map, seal, volume};
 pub use crate::map::Kind;
 use on_map::insist_on_rule;
 pub use on_map::{insist_on_marks, insist_on_words};
+pub use on_write::insist_on_writes;
 
 const FILL: u8 = 0x5a;
 
@@ -43,7 +45,7 @@ pub struct Images {
     pub remote: Vec<u8>,
 }
 
-/// What a call on one sector answers; only mend and read find a verdict.
+/// What a call on one sector answers; only mend, read and write find a verdict.
 pub type Answer = Result<Option<Verdict>, Refusal>;
 
 /// An implementation of the calls.
@@ -103,6 +105,7 @@ impl Calls for Reference {
             }
             Kind::Mend => volume::mend(key, v, s, n, local, tag, remote, map, i).map(Some),
             Kind::Read => volume::read(key, v, s, n, local, tag, remote, map, i, output).map(Some),
+            Kind::Write => volume::write(key, v, s, n, local, tag, remote, map, i, text).map(Some),
         }
     }
 
@@ -164,7 +167,7 @@ pub struct Request {
 }
 
 impl Request {
-    /// The call as the machine is told of it.
+    /// The call as the machine is told of it. Of a write it is told the calls.
     fn call(&self) -> Call<'_> {
         match self.kind {
             Kind::Blank => Call::Blank,
@@ -173,13 +176,14 @@ impl Request {
             Kind::Third => Call::ThirdStage(&self.plaintext),
             Kind::Mend => Call::Mend,
             Kind::Read => Call::Read,
+            Kind::Write => panic!("a write is no event of its own"),
         }
     }
 
     /// The places that the accepted call writes.
     fn written(&self, found: Option<Verdict>) -> Vec<Place> {
         match (self.kind, found) {
-            (Kind::Blank, _) => Place::ALL.to_vec(),
+            (Kind::Blank | Kind::Write, _) => Place::ALL.to_vec(),
             (Kind::First, _) => vec![Place::Local],
             (Kind::Second, _) => vec![Place::Tag],
             (Kind::Third, _) => vec![Place::Remote],
@@ -187,6 +191,16 @@ impl Request {
             (Kind::Mend, _) | (Kind::Read, _) => vec![],
         }
     }
+}
+
+/// A call that was made on copies of the images and the map.
+struct Made {
+    request: Request,
+    answer: Answer,
+    before: Images,
+    after: Images,
+    /// The map as it was left.
+    map: Vec<u64>,
 }
 
 /// How often each thing was seen.
@@ -346,16 +360,21 @@ impl<'a> History<'a> {
             return self.damage();
         }
         let request = self.choose_request();
-        self.call(&request);
+        if request.kind == Kind::Write {
+            self.write(&request);
+        } else {
+            self.call(&request);
+        }
         request.number.min(self.given.count - 1)
     }
 
     fn choose_request(&mut self) -> Request {
-        let (kind, number) = match self.damaged.take() {
-            Some(number) if self.stretch == Stretch::AnyWriter && self.rng.chance(80) => {
-                let kinds = [Kind::Read, Kind::Read, Kind::Mend];
+        let (kind, number) = match (self.damaged.take(), self.stretch) {
+            (Some(number), Stretch::AnyWriter) if self.rng.chance(80) => {
+                let kinds = [Kind::Read, Kind::Read, Kind::Mend, Kind::Write];
                 (*self.rng.pick(&kinds), number)
             }
+            (Some(number), Stretch::Cuts) if self.rng.chance(40) => (Kind::Write, number),
             _ => self.choose_call(),
         };
         let plaintext = self.choose_plaintext(kind, number);
@@ -393,17 +412,19 @@ impl<'a> History<'a> {
         }
         match self.rng.below(100) {
             0..=3 => Kind::Blank,
-            4..=33 => Kind::First,
-            34..=57 => Kind::Second,
-            58..=77 => Kind::Third,
-            78..=88 => Kind::Mend,
-            _ => Kind::Read,
+            4..=29 => Kind::First,
+            30..=50 => Kind::Second,
+            51..=67 => Kind::Third,
+            68..=76 => Kind::Mend,
+            77..=85 => Kind::Read,
+            _ => Kind::Write,
         }
     }
 
-    /// Later stages mostly go on with what the first began.
+    /// Later stages mostly go on with what the first, or a write, began.
     fn choose_plaintext(&mut self, kind: Kind, number: usize) -> Vec<u8> {
-        if kind != Kind::First && self.rng.chance(85) {
+        let begins = matches!(kind, Kind::First | Kind::Write);
+        if !begins && self.rng.chance(85) {
             return self.drafts[number].clone();
         }
         let plaintext = if self.rng.chance(20) {
@@ -411,7 +432,7 @@ impl<'a> History<'a> {
         } else {
             self.rng.pick(&self.pool).clone()
         };
-        if kind == Kind::First {
+        if begins {
             self.drafts[number] = plaintext.clone();
         }
         plaintext
@@ -456,49 +477,81 @@ impl<'a> History<'a> {
     }
 
     fn call(&mut self, request: &Request) {
+        let made = self.make(request);
+        if self.is_left_out(&made) {
+            return;
+        }
+        let cut = self.stretch != Stretch::CallsAlone && self.rng.chance(30);
+        let ending = self.end(&made, cut);
+        self.tell(&made, ending);
+        self.tally_call(request, how(&made.answer, cut));
+        self.keep_map(&made, cut);
+    }
+
+    /// Makes a call on copies. What it refuses writes no image and no output, and
+    /// what it accepts writes the places due and no other.
+    fn make(&self, request: &Request) -> Made {
         let before = self.images.clone();
         let mut after = before.clone();
         let mut output = vec![FILL; request.output];
-        let (outcome, map) = self.run(request, &mut after, &mut output);
-        self.insist_on_answer(request, outcome);
-        let cut = self.stretch != Stretch::CallsAlone && self.rng.chance(30);
-        let Ok(found) = outcome else {
-            let same_output = output.iter().all(|&byte| byte == FILL);
-            assert!(after == before && same_output, "a refused call wrote");
-            let tag_is_new = self.rng.chance(50);
-            self.tell(request, ending(cut, tag_is_new), true);
-            self.keep_map(request, outcome, map, cut);
-            return;
-        };
-        if request.given != self.given && self.stretch != Stretch::AnyWriter {
-            // Only a call that is refused may come with another key or number.
-            return;
+        let (answer, map) = self.run(request, &mut after, &mut output);
+        self.insist_on_answer(request, answer);
+        match answer {
+            Ok(found) => {
+                let written = request.written(found);
+                self.insist_on_places(&before, &after, request.number, &written);
+            }
+            Err(_) => {
+                let same_output = output.iter().all(|&byte| byte == FILL);
+                assert!(after == before && same_output, "a refused call wrote");
+            }
         }
-        let written = request.written(found);
-        self.insist_on_writes(&before, &after, request.number, &written);
+        Made {
+            request: request.clone(),
+            answer,
+            before,
+            after,
+            map,
+        }
+    }
+
+    /// Only a call that is refused may come with another key or number.
+    fn is_left_out(&self, made: &Made) -> bool {
+        let own = made.request.given == self.given;
+        made.answer.is_ok() && !own && self.stretch != Stretch::AnyWriter
+    }
+
+    /// Leaves the images as a call does that finishes, or as one that is cut may.
+    fn end(&mut self, made: &Made, cut: bool) -> Ending {
+        let Made { request, after, .. } = made;
         if !cut {
-            self.images = after;
-            self.tell(request, Ending::Finished, false);
-            self.keep_map(request, outcome, map, false);
-            return;
+            self.images = after.clone();
+            return Ending::Finished;
         }
-        self.images = self.cut(&before, &after, request.number, written);
-        let tag_is_new = if request.kind == Kind::Second {
+        let written = made.answer.map_or(vec![], |found| request.written(found));
+        self.images = self.cut(&made.before, after, request.number, written);
+        let tag_is_new = if request.kind == Kind::Second && made.answer.is_ok() {
             self.images.tag == after.tag
         } else {
             self.rng.chance(50)
         };
-        self.tell(request, ending(true, tag_is_new), false);
-        self.keep_map(request, outcome, map, true);
+        Ending::Cut { tag_is_new }
     }
 
-    fn tell(&mut self, request: &Request, ending: Ending, refused: bool) {
+    /// Tells the machine, if this is a stretch of which it says something.
+    fn tell(&mut self, made: &Made, ending: Ending) {
+        if self.stretch != Stretch::AnyWriter {
+            self.machine.feed(&Event::Call {
+                call: made.request.call(),
+                number: made.request.number,
+                ending,
+                refused: made.answer.is_err(),
+            });
+        }
+    }
+
+    fn tally_call(&mut self, request: &Request, how: &str) {
         self.tally.add("events");
-        let how = match (refused, ending) {
-            (true, _) => "refused",
-            (false, Ending::Finished) => "finished",
-            (false, Ending::Cut { .. }) => "cut",
-        };
         if self.stretch == Stretch::AnyWriter {
             let own = request.given == self.given;
             let whose = if own { "its own" } else { "another" };
@@ -506,12 +559,6 @@ impl<'a> History<'a> {
                 .add(&format!("beside any writer, {whose} call {how}"));
             return;
         }
-        self.machine.feed(&Event::Call {
-            call: request.call(),
-            number: request.number,
-            ending,
-            refused,
-        });
         self.tally.add(&format!("{:?} {how}", request.kind));
         if request.given.volume != self.given.volume
             && request.number < self.given.count
@@ -533,7 +580,7 @@ impl<'a> History<'a> {
     }
 
     /// No byte but those of the places due may differ.
-    fn insist_on_writes(&self, before: &Images, after: &Images, number: usize, written: &[Place]) {
+    fn insist_on_places(&self, before: &Images, after: &Images, number: usize, written: &[Place]) {
         let size = self.given.size;
         let mut due = before.clone();
         for &place in written {
@@ -737,7 +784,7 @@ impl<'a> History<'a> {
             let sealed = self.sealed(number, &new);
             let local = images.place(self.given.size, number, Place::Local);
             assert_eq!(local, sealed.local);
-            self.insist_on_writes(&self.images, &images, number, &[Place::Local]);
+            self.insist_on_places(&self.images, &images, number, &[Place::Local]);
         }
     }
 
@@ -764,7 +811,7 @@ impl<'a> History<'a> {
         assert_eq!(mended, Ok(Some(verdict)));
         let due = Ok((Verdict::Whole, plaintext));
         assert_eq!(self.read(&images, number), due);
-        self.insist_on_writes(&self.images, &images, number, &[place]);
+        self.insist_on_places(&self.images, &images, number, &[place]);
     }
 
     /// Whether a plaintext other than this one fits two places. What can fit
@@ -850,11 +897,11 @@ fn urgency(read: Result<(Verdict, Vec<u8>), Refusal>) -> usize {
     }
 }
 
-fn ending(cut: bool, tag_is_new: bool) -> Ending {
-    if cut {
-        Ending::Cut { tag_is_new }
-    } else {
-        Ending::Finished
+fn how(answer: &Answer, cut: bool) -> &'static str {
+    match (answer, cut) {
+        (Err(_), _) => "refused",
+        (Ok(_), true) => "cut",
+        (Ok(_), false) => "finished",
     }
 }
 
@@ -923,13 +970,13 @@ pub fn run_histories(
 
 /// A history that never comes to a case has not tested it.
 pub fn insist_on_variety(tally: &Tally) {
-    for kind in ["Blank", "First", "Second", "Third", "Mend", "Read"] {
+    for kind in ["Blank", "First", "Second", "Third", "Mend", "Read", "Write"] {
         for how in ["finished", "cut", "refused"] {
             assert!(tally.get(&format!("{kind} {how}")) > 0, "{kind} {how}");
         }
     }
     // A blank has no verdict to refuse another number by.
-    for kind in ["First", "Second", "Third", "Mend", "Read"] {
+    for kind in ["First", "Second", "Third", "Mend", "Read", "Write"] {
         let what = format!("{kind} refused under another number");
         assert!(tally.get(&what) > 0, "{what}");
     }

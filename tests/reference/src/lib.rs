@@ -18,3 +18,4 @@ pub mod rng;
 pub mod seal;
 pub mod suspects;
 pub mod volume;
+pub mod writes;

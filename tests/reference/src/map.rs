@@ -19,6 +19,8 @@ pub enum Kind {
     Third,
     Mend,
     Read,
+    /// A write in one call.
+    Write,
 }
 
 /// What is done to a bit.
@@ -34,7 +36,8 @@ const FINISHED: &[u8] = &[0, 0x81, 0x82, 0x83];
 const LOST_OR_CLASHING: &[u8] = &[6, 7];
 
 /// How calls mark the bit of their sector, by the numbers of their answers, in
-/// the order of the request. What has no row leaves the map alone.
+/// the order of the request. What has no row leaves the map alone. A write has
+/// none, since the calls that it is made of mark the bit.
 const MARKS: [(&[Kind], &[u8], Mark); 5] = [
     (
         &[Kind::Blank, Kind::Third, Kind::Mend],

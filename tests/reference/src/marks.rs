@@ -13,7 +13,8 @@ use crate::volume::part;
 const FILL: u8 = 0x5a;
 const MAX: u64 = u64::MAX;
 
-/// A volume of sectors of 32 bytes, which hold random bytes at first.
+/// A volume, whose sectors hold random bytes at first.
+#[derive(Clone)]
 pub struct Volume {
     pub given: Given,
     pub images: Images,
@@ -21,17 +22,22 @@ pub struct Volume {
 }
 
 impl Volume {
+    /// Of sectors of 32 bytes.
     pub fn new(rng: &mut Rng, count: usize) -> Volume {
+        Volume::of_size(rng, 32, count)
+    }
+
+    pub fn of_size(rng: &mut Rng, size: usize, count: usize) -> Volume {
         let given = Given {
             key: rng.bytes(32),
             volume: rng.next_u64(),
-            size: 32,
+            size,
             count,
         };
         let images = Images {
-            local: rng.bytes(32 * count),
+            local: rng.bytes(size * count),
             tag: rng.bytes(16 * count),
-            remote: rng.bytes(32 * count),
+            remote: rng.bytes(size * count),
         };
         let map = vec![0; words(count)];
         Volume { given, images, map }
@@ -43,7 +49,7 @@ impl Volume {
             given: self.given.clone(),
             number,
             plaintext: plaintext.to_vec(),
-            output: 32,
+            output: self.given.size,
             words: self.map.len(),
         }
     }
@@ -55,18 +61,27 @@ impl Volume {
         answer_number(&answer)
     }
 
-    fn sealed(&self, number: usize, plaintext: &[u8]) -> Sealed {
+    pub fn sealed(&self, number: usize, plaintext: &[u8]) -> Sealed {
         let Given {
             ref key, volume, ..
         } = self.given;
         sealed(key, volume, number as u64, plaintext)
     }
 
-    fn hold(&mut self, number: usize, held: &Sealed) {
+    /// Puts this into the sector's three places.
+    pub fn hold(&mut self, number: usize, held: &Sealed) {
         let Images { local, tag, remote } = &mut self.images;
-        local[part(number, 32)].copy_from_slice(&held.local);
+        let size = self.given.size;
+        local[part(number, size)].copy_from_slice(&held.local);
         tag[part(number, 16)].copy_from_slice(&held.tag);
-        remote[part(number, 32)].copy_from_slice(&held.remote);
+        remote[part(number, size)].copy_from_slice(&held.remote);
+    }
+
+    /// Sets or clears a sector's bit in the map.
+    pub fn mark(&mut self, number: usize, is_suspect: bool) {
+        let bit = 1u64 << (number % 64);
+        self.map[number / 64] &= !bit;
+        self.map[number / 64] |= if is_suspect { bit } else { 0 };
     }
 }
 
@@ -89,23 +104,25 @@ pub fn try_positions(calls: &dyn Calls) {
 
 /// What a sector is made to hold before a call with a plaintext.
 #[derive(Clone, Copy, Debug)]
-enum Holds {
+pub enum Holds {
     Whole,
     /// The plaintext's local sector, and all else of another.
     AfterFirst,
     /// The plaintext's local sector and tag, and all else of another.
     AfterSecond,
     Doubtful(Place),
+    /// Which takes two blocks.
     Clashing,
     Lost,
 }
 
 impl Holds {
     /// The sector as it is before the call, and the call's plaintext.
-    fn made(self, rng: &mut Rng, volume: &Volume, number: usize) -> (Sealed, Vec<u8>) {
-        let plaintext = rng.bytes(32);
+    pub fn made(self, rng: &mut Rng, volume: &Volume, number: usize) -> (Sealed, Vec<u8>) {
+        let size = volume.given.size;
+        let plaintext = rng.bytes(size);
         let new = volume.sealed(number, &plaintext);
-        let mut held = volume.sealed(number, &rng.bytes(32));
+        let mut held = volume.sealed(number, &rng.bytes(size));
         match self {
             Holds::Whole => {}
             Holds::AfterFirst => held.local = new.local,
@@ -113,7 +130,7 @@ impl Holds {
             Holds::Doubtful(place) => held.place_mut(place)[7] ^= 2,
             Holds::Clashing => {
                 let h = to_block(&volume.given.key[..16]);
-                let (one, other) = blind_pair(h, &[0; 2], 1);
+                let (one, other) = blind_pair(h, &vec![0; size / 16], 1);
                 held = volume.sealed(number, &to_bytes(&one));
                 held.remote = volume.sealed(number, &to_bytes(&other)).remote;
             }
@@ -149,6 +166,11 @@ fn rows() -> Vec<(Kind, Holds, u8, Option<bool>)> {
         (Kind::Read, Holds::Clashing, 7, set),
         (Kind::Mend, Holds::Lost, 6, set),
         (Kind::Mend, Holds::Clashing, 7, set),
+        (Kind::Write, Holds::Whole, 0, cleared),
+        (Kind::Write, Holds::AfterFirst, 0x81, cleared),
+        (Kind::Write, Holds::AfterSecond, 0x83, cleared),
+        (Kind::Write, Holds::Lost, 6, set),
+        (Kind::Write, Holds::Clashing, 7, set),
         (Kind::Second, Holds::Whole, 10, left),
         (Kind::Third, Holds::Whole, 10, left),
         (Kind::Third, Holds::AfterFirst, 10, left),
@@ -156,6 +178,7 @@ fn rows() -> Vec<(Kind, Holds, u8, Option<bool>)> {
     for (doubtful, answer) in DOUBTFUL.into_iter().zip([0x81, 0x82, 0x83]) {
         rows.push((Kind::Mend, doubtful, answer, cleared));
         rows.push((Kind::Read, doubtful, answer, set));
+        rows.push((Kind::Write, doubtful, answer, cleared));
         rows.push((Kind::First, doubtful, 10, left));
     }
     for stage in [Kind::First, Kind::Second, Kind::Third] {
@@ -186,14 +209,11 @@ pub fn try_every_mark(calls: &dyn Calls) {
                     answer,
                     "{kind:?} on {holds:?}"
                 );
-                let mut due = before;
-                let bit = 1u64 << (number % 64);
-                match after {
-                    Some(true) => due[number / 64] |= bit,
-                    Some(false) => due[number / 64] &= !bit,
-                    None => {}
+                let left = std::mem::replace(&mut volume.map, before);
+                if let Some(is_suspect) = after {
+                    volume.mark(number, is_suspect);
                 }
-                assert_eq!(volume.map, due, "{kind:?} on {holds:?}");
+                assert_eq!(left, volume.map, "{kind:?} on {holds:?}");
             }
         }
     }

@@ -62,7 +62,7 @@ impl Entry {
         let is_suspect = match answer {
             0 => matches!(kind, Kind::First | Kind::Second),
             0x81..=0x83 => kind == Kind::Read,
-            // Only reads and mends end so.
+            // Only reads, mends and writes end so.
             6 | 7 => true,
             _ => return None,
         };

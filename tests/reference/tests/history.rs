@@ -1,10 +1,11 @@
 //! Random histories of small volumes through this package's own calls.
 
+use std::cell::Cell;
 use std::panic::{catch_unwind, AssertUnwindSafe};
 
-use reference::answer::{answer_number, Refusal};
-use reference::history::{insist_on_marks, insist_on_variety, insist_on_words, run_histories};
-use reference::history::{Answer, Calls, Given, Images, Kind, Reference, Request};
+use reference::answer::{answer_number, Refusal, Verdict};
+use reference::history::{insist_on_marks, insist_on_variety, insist_on_words, insist_on_writes};
+use reference::history::{run_histories, Answer, Calls, Given, Images, Kind, Reference, Request};
 use reference::volume::Survey;
 
 #[test]
@@ -16,6 +17,7 @@ fn histories_keep_what_the_machine_keeps() {
     }
     insist_on_variety(&tally);
     insist_on_marks(&tally);
+    insist_on_writes(&tally);
     for what in ["number 0", "number 1", "largest number", "any number"] {
         assert!(tally.get(&format!("history under {what}")) > 0, "{what}");
     }
@@ -103,6 +105,7 @@ fn histories_notice_a_deaf_call() {
             Some(Kind::Third),
             Some(Kind::Mend),
             Some(Kind::Read),
+            Some(Kind::Write),
             None,
         ] {
             let deaf = Deaf { kind, heard };
@@ -128,10 +131,64 @@ enum Mistake {
     TakesLongerMaps,
     /// The call says that it is done, and writes no image.
     WritesNoImage(Kind),
+    Write(Wrong),
+}
+
+/// A write in one call that is made wrongly.
+#[derive(Clone, Copy, Debug, PartialEq, Eq)]
+enum Wrong {
+    NoMend,
+    /// The verdict is that of the mended sector.
+    VerdictAfterMend,
+    SecondBeforeFirst,
+    EndsAfterSecond,
+    /// It marks the map as if it had made the third stage.
+    PretendsThird,
+    /// It blanks what is lost, and goes on.
+    BlanksLost,
+}
+
+impl Wrong {
+    fn write(self, request: &Request, images: &mut Images, map: &mut [u64]) -> Answer {
+        let mut make = |kind, images: &mut Images| {
+            let request = Request {
+                kind,
+                ..request.clone()
+            };
+            let mut output = vec![0; request.plaintext.len()];
+            Reference.run(&request, images, map, &mut output)
+        };
+        let mut found = make(Kind::Read, images);
+        if self == Wrong::BlanksLost && found == Err(Refusal::Lost) {
+            make(Kind::Blank, images)?;
+            found = Ok(Some(Verdict::Whole));
+        }
+        if self != Wrong::NoMend && found? != Some(Verdict::Whole) {
+            make(Kind::Mend, images)?;
+        }
+        if self == Wrong::VerdictAfterMend {
+            found = make(Kind::Read, images);
+        }
+        if self == Wrong::SecondBeforeFirst {
+            make(Kind::Second, images)?;
+        }
+        make(Kind::First, images)?;
+        make(Kind::Second, images)?;
+        if self == Wrong::PretendsThird {
+            make(Kind::Third, &mut images.clone())?;
+        } else if self != Wrong::EndsAfterSecond {
+            make(Kind::Third, images)?;
+        }
+        found
+    }
 }
 
 /// This package's calls with a mistake.
-struct Mistaken(Mistake);
+struct Mistaken {
+    mistake: Mistake,
+    /// A write was made, and behind it its calls are made one by one.
+    in_write: Cell<bool>,
+}
 
 fn flip(map: &mut [u64], number: usize) {
     map[number / 64] ^= 1 << (number % 64);
@@ -149,19 +206,29 @@ impl Calls for Mistaken {
         map: &mut [u64],
         output: &mut [u8],
     ) -> Answer {
+        if let (Mistake::Write(wrong), Kind::Write) = (self.mistake, request.kind) {
+            return wrong.write(request, images, map);
+        }
         let before = (images.clone(), map.to_vec());
-        if matches!(self.0, Mistake::HighestBitFirst) {
+        if matches!(self.mistake, Mistake::HighestBitFirst) {
             map.copy_from_slice(&reversed(map));
         }
         let answer = Reference.run(request, images, map, output);
         let this = (request.kind, answer_number(&answer));
         let number = request.number;
-        match self.0 {
+        match self.mistake {
             Mistake::OtherBit(kind, of) if this == (kind, of) => flip(map, number),
             Mistake::NoMark(kind, of) if this == (kind, of) => map.copy_from_slice(&before.1),
             Mistake::HighestBitFirst => map.copy_from_slice(&reversed(map)),
             Mistake::NextSectorToo if before.1 != map => flip(map, (number + 1) % 64),
-            Mistake::WritesNoImage(kind) if kind == request.kind => *images = before.0,
+            Mistake::WritesNoImage(kind) if kind == request.kind && !self.in_write.get() => {
+                *images = before.0;
+            }
+            _ => {}
+        }
+        match request.kind {
+            Kind::Write => self.in_write.set(answer.is_ok()),
+            Kind::Third => self.in_write.set(false),
             _ => {}
         }
         answer
@@ -178,7 +245,7 @@ impl Calls for Mistaken {
     }
 
     fn start_map(&self, count: usize, map: &mut [u64]) -> Result<(), Refusal> {
-        match self.0 {
+        match self.mistake {
             Mistake::StartsNothing => Reference.start_map(count, &mut map.to_vec()),
             Mistake::HighestBitFirst => {
                 let answer = Reference.start_map(count, map);
@@ -197,7 +264,7 @@ impl Calls for Mistaken {
 
     fn count_suspects(&self, count: usize, map: &[u64]) -> Result<u64, Refusal> {
         let found = Reference.count_suspects(count, map)?;
-        match self.0 {
+        match self.mistake {
             Mistake::CountsPastTheCount => {
                 Ok(map.iter().map(|word| u64::from(word.count_ones())).sum())
             }
@@ -208,11 +275,15 @@ impl Calls for Mistaken {
 
 /// What the histories of a seed say of calls with a mistake, if they notice it.
 fn complaint(mistake: Mistake, seed: u64) -> Option<String> {
-    let calls = Mistaken(mistake);
+    let calls = Mistaken {
+        mistake,
+        in_write: Cell::new(false),
+    };
     let run = || run_histories(&calls, seed..seed + 1, &[(16, 3), (32, 2)], 300);
     let payload = catch_unwind(AssertUnwindSafe(run)).err()?;
-    let text = payload.downcast_ref::<String>();
-    Some(text.expect("a text with a value").clone())
+    let with_value = payload.downcast_ref::<String>().cloned();
+    let without = || payload.downcast_ref::<&str>().map(|text| text.to_string());
+    Some(with_value.or_else(without).expect("a text"))
 }
 
 /// Whether one of some seeds says this of the mistake.
@@ -236,6 +307,7 @@ fn histories_notice_a_wrong_mark() {
         (Kind::Third, &[0]),
         (Kind::Mend, &[0, 0x81, 0x82, 0x83, 6, 7]),
         (Kind::Read, &[0, 0x81, 0x82, 0x83, 6, 7]),
+        (Kind::Write, &[0, 0x81, 0x82, 0x83, 6, 7]),
     ] {
         for &answer in answers {
             mistakes.push(Mistake::OtherBit(kind, answer));
@@ -259,11 +331,30 @@ fn histories_notice_a_wrong_call_on_the_map() {
 
 /// A call that is done but leaves a sector other than whole is noticed by the
 /// second claim, though its bit is as the rule says. A mend that does so is
-/// noticed earlier, by a mend of a copy.
+/// noticed earlier, by a mend of a copy. A stage that does so in a write only is
+/// noticed by the write.
 #[test]
 fn histories_notice_a_clear_bit_that_is_not_whole() {
     for kind in [Kind::Blank, Kind::Third] {
         let mistake = Mistake::WritesNoImage(kind);
         assert!(is_noticed(mistake, "is clear, and not whole"), "{kind:?}");
     }
+}
+
+/// A write that is other than its calls is noticed by what it answers, by its bit
+/// or by its images.
+#[test]
+fn histories_notice_a_wrong_write() {
+    for (wrong, due) in [
+        (Wrong::NoMend, "another answer to Write"),
+        (Wrong::VerdictAfterMend, "another answer to Write"),
+        (Wrong::SecondBeforeFirst, "another answer to Write"),
+        (Wrong::EndsAfterSecond, "a bit is not as the rule says"),
+        (Wrong::PretendsThird, "other images than its calls"),
+        (Wrong::BlanksLost, "another answer to Write"),
+    ] {
+        assert!(is_noticed(Mistake::Write(wrong), due), "{wrong:?}");
+    }
+    let writes_nothing = Mistake::WritesNoImage(Kind::Write);
+    assert!(is_noticed(writes_nothing, "other images than its calls"));
 }

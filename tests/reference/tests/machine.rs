@@ -130,3 +130,79 @@ fn damage() {
         });
     }
 }
+
+/// The calls of a write, as they finish.
+fn calls_of_write(with_mend: bool) -> Vec<Call<'static>> {
+    let stages = [
+        Call::FirstStage(&NEW),
+        Call::SecondStage(&NEW),
+        Call::ThirdStage(&NEW),
+    ];
+    let before: &[Call] = if with_mend {
+        &[Call::Read, Call::Mend]
+    } else {
+        &[Call::Read]
+    };
+    [before, &stages].concat()
+}
+
+/// Feeds some calls of a write, of which all finish but the last, and gives what
+/// is held then.
+fn fed(machine: &Machine, calls: &[Call<'static>], last: Ending) -> Sector {
+    let mut machine = machine.clone();
+    for (index, &kind) in calls.iter().enumerate() {
+        let is_last = index + 1 == calls.len();
+        let ending = if is_last { last } else { Ending::Finished };
+        machine.feed(&call(kind, ending, false));
+        assert_eq!(*machine.sector(0), Sector::Gone);
+    }
+    machine.sector(1).clone()
+}
+
+/// What a cut write may leave: the old plaintext where one was kept, or the new.
+fn is_old_or_new(before: &Sector, after: &Sector) -> bool {
+    let is_kept = |text| DOUBTS.iter().any(|&doubt| *after == kept(text, doubt));
+    let is_old = match before {
+        Sector::Gone => *after == Sector::Gone,
+        Sector::Kept { .. } => is_kept(OLD),
+    };
+    is_old || is_kept(NEW)
+}
+
+/// A write in every state, cut behind or in each of its calls, and finished.
+#[test]
+fn a_write_keeps_the_old_or_the_new() {
+    for (machine, before) in machines() {
+        for with_mend in [false, true] {
+            let calls = calls_of_write(with_mend);
+            for made in 1..=calls.len() {
+                for ending in [Ending::Finished, CUT, CUT_NEW] {
+                    let after = fed(&machine, &calls[..made], ending);
+                    assert!(is_old_or_new(&before, &after), "{before:?}, {after:?}");
+                }
+            }
+            let after = fed(&machine, &calls, Ending::Finished);
+            assert_eq!(after, kept(NEW, None));
+        }
+    }
+}
+
+/// From the first stage to the second the old plaintext is kept, and then the new.
+#[test]
+fn where_a_write_changes_what_is_kept() {
+    let (machine, _) = &machines()[1];
+    let calls = calls_of_write(false);
+    for (made, ending, due) in [
+        (1, CUT, kept(OLD, None)),
+        (1, Ending::Finished, kept(OLD, None)),
+        (2, CUT, kept(OLD, Some(Place::Local))),
+        (2, Ending::Finished, kept(OLD, Some(Place::Local))),
+        (3, CUT, kept(OLD, Some(Place::Local))),
+        (3, CUT_NEW, kept(NEW, Some(Place::Remote))),
+        (3, Ending::Finished, kept(NEW, Some(Place::Remote))),
+        (4, CUT, kept(NEW, Some(Place::Remote))),
+        (4, Ending::Finished, kept(NEW, None)),
+    ] {
+        assert_eq!(fed(machine, &calls[..made], ending), due, "{made} calls");
+    }
+}

@@ -147,6 +147,7 @@ fn refusals_on_arguments_leave_the_map_alone() {
         Kind::Third,
         Kind::Mend,
         Kind::Read,
+        Kind::Write,
     ] {
         for map in [vec![0], vec![MAX], vec![], vec![MAX; 2]] {
             let of_map = if map.len() == 1 { None } else { Some(13) };

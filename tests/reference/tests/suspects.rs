@@ -116,6 +116,13 @@ fn the_last_that_says_something_of_a_bit_decides() {
         (Kind::Read, 0x82, "111100"),
         (Kind::Read, 6, "111100"),
         (Kind::Read, 7, "111100"),
+        (Kind::Write, 0, "100100"),
+        (Kind::Write, 0x81, "100100"),
+        (Kind::Write, 0x82, "100100"),
+        (Kind::Write, 0x83, "100100"),
+        (Kind::Write, 6, "111100"),
+        (Kind::Write, 7, "111100"),
+        (Kind::Write, 3, "101100"),
         (Kind::First, 10, "101100"),
         (Kind::Third, 3, "101100"),
         (Kind::Read, 13, "101100"),
@@ -147,6 +154,11 @@ fn when_clear_is_whole() {
     assert!(!holds(&[Entry::Written]));
     assert!(!holds(&[foreign(Kind::Blank, 1, 0)]));
     assert!(!holds(&[foreign(Kind::Mend, 1, 0x81)]));
+    assert!(holds(&[
+        on(Kind::Write, 1, 0x83),
+        foreign(Kind::Write, 1, 7)
+    ]));
+    assert!(!holds(&[foreign(Kind::Write, 1, 0)]));
     assert!(!holds(&[foreign(Kind::Blank, 1, 0), on(Kind::Blank, 1, 0)]));
     assert!(!holds(&[start(3, 0)]));
     assert!(!holds(&[start(64, 0), on(Kind::Blank, 1, 0)]));

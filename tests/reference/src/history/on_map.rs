@@ -1,7 +1,7 @@
 //! The part of a history that is about the map: the calls on it, and the two
 //! claims that are made of it, which are told from the log.
 
-use super::{Answer, History, Request, Stretch, Tally, FEW};
+use super::{Answer, History, Made, Request, Stretch, Tally, FEW};
 use crate::answer::{answer_number, Verdict};
 use crate::seal::{Sealed, Sealer, Triple};
 use crate::suspects::{answer_on_map, bits, Call, Entry, Log};
@@ -135,26 +135,25 @@ impl History<'_> {
     /// Takes over what a call left of its map. After a cut the map is started
     /// anew. Beside any writer it is not: there the call was made, or was never
     /// made, and then something else wrote.
-    pub(super) fn keep_map(
-        &mut self,
-        request: &Request,
-        answer: Answer,
-        map: Vec<u64>,
-        is_cut: bool,
-    ) {
+    pub(super) fn keep_map(&mut self, made: &Made, is_cut: bool) {
         if is_cut && self.stretch == Stretch::Cuts {
             self.start_anew();
             return;
         }
         if !is_cut || self.rng.chance(50) {
-            self.tally_mark(request, answer_number(&answer), &map);
-            self.log.push(self.entry(request, answer));
-            if request.words == self.map.len() {
-                self.map = map;
-            }
+            self.tally_mark(made);
+            self.take_map(made);
         }
         if is_cut {
             self.log.push(Entry::Written);
+        }
+    }
+
+    /// The log and the map, with a call that was made.
+    pub(super) fn take_map(&mut self, made: &Made) {
+        self.log.push(self.entry(&made.request, made.answer));
+        if made.request.words == self.map.len() {
+            self.map.clone_from(&made.map);
         }
     }
 
@@ -245,13 +244,15 @@ impl History<'_> {
     }
 
     /// Notes what became of the sector's bit.
-    fn tally_mark(&mut self, request: &Request, answer: u8, map: &[u64]) {
+    fn tally_mark(&mut self, made: &Made) {
+        let request = &made.request;
         let (kind, number) = (request.kind, request.number);
+        let answer = answer_number(&made.answer);
         self.tally.add(&format!("{kind:?} answers {answer:02x}"));
         if request.words != self.map.len() || number >= self.given.count {
             return;
         }
-        let what = match (bits(&self.map)[number], bits(map)[number]) {
+        let what = match (bits(&self.map)[number], bits(&made.map)[number]) {
             (true, false) => "clears a set bit",
             (false, true) => "sets a clear bit",
             (true, true) => "leaves a set bit",
@@ -266,10 +267,11 @@ impl History<'_> {
 }
 
 /// The calls and answers that clear a bit, that set one and that leave one alone.
-const CLEAR: [&str; 7] = [
-    "Blank 00", "Third 00", "Mend 00", "Mend 81", "Mend 82", "Mend 83", "Read 00",
+const CLEAR: [&str; 11] = [
+    "Blank 00", "Third 00", "Mend 00", "Mend 81", "Mend 82", "Mend 83", "Read 00", "Write 00",
+    "Write 81", "Write 82", "Write 83",
 ];
-const SET: [&str; 9] = [
+const SET: [&str; 11] = [
     "First 00",
     "Second 00",
     "Read 81",
@@ -279,6 +281,8 @@ const SET: [&str; 9] = [
     "Read 07",
     "Mend 06",
     "Mend 07",
+    "Write 06",
+    "Write 07",
 ];
 const LEAVE: [&str; 3] = ["First 0a", "Second 0a", "Third 0a"];
 
@@ -295,7 +299,7 @@ pub fn insist_on_marks(tally: &Tally) {
         insist_on(tally, &format!("{call} leaves a set bit"));
         insist_on(tally, &format!("{call} leaves a clear bit"));
     }
-    for call in ["Blank", "First", "Second", "Third", "Mend", "Read"] {
+    for call in ["Blank", "First", "Second", "Third", "Mend", "Read", "Write"] {
         insist_on(tally, &format!("{call} answers 0d"));
     }
     insist_on_calls_on_map(tally);
@@ -332,6 +336,6 @@ pub fn insist_on_words(tally: &Tally) {
     insist_on(tally, "seen clear behind the first word");
 }
 
-fn insist_on(tally: &Tally, what: &str) {
+pub(super) fn insist_on(tally: &Tally, what: &str) {
     assert!(tally.get(what) > 0, "{what}");
 }
