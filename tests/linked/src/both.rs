@@ -126,5 +126,6 @@ fn library_run(request: &Request, images: &mut Images, map: &mut [u64], out: &mu
         Kind::Third => crate::third_stage(key, v, s, n, i, plain, local, tag, remote, map),
         Kind::Mend => crate::mend(key, v, s, n, i, local, tag, remote, map),
         Kind::Read => crate::read(key, v, s, n, i, local, tag, remote, map, out),
+        Kind::Write => crate::write(key, v, s, n, i, plain, local, tag, remote, map),
     }
 }

@@ -237,6 +237,21 @@ pub fn mend(
     judged(Volume::new(key, volume, s, n, local, tags, remote, map).mend(number))
 }
 
+pub fn write(
+    key: &[u8],
+    volume: u64,
+    s: usize,
+    n: usize,
+    number: usize,
+    plain: &[u8],
+    local: &mut [u8],
+    tags: &mut [u8],
+    remote: &mut [u8],
+    map: &mut [u64],
+) -> u32 {
+    judged(Volume::new(key, volume, s, n, local, tags, remote, map).write(number, plain))
+}
+
 /// The counts are whole, doubtful, clashing, lost and the health. The numbers
 /// that the wrapper gives must be the front of the list. The map is lent as
 /// writable, so that a write to it is seen.

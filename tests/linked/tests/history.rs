@@ -3,10 +3,11 @@
 //! give, and the log of the calls what the map must be.
 
 use linked::both::Both;
-use reference::history::{insist_on_marks, insist_on_variety, insist_on_words};
+use reference::history::{insist_on_marks, insist_on_variety, insist_on_words, insist_on_writes};
 use reference::history::{run_histories, Tally};
 
-/// As many seeds come to every kind of number.
+/// As many seeds come to every kind of number, and to every position of a cut in a
+/// write.
 const SEEDS: u64 = 18;
 
 /// How many seeds: those, or what the variable MIRROR_SEEDS says.
@@ -24,6 +25,9 @@ fn histories_through_the_library() {
     let tally = run_histories(&Both, 0..seeds(), &small, 700);
     insist_on_variety(&tally);
     insist_on_marks(&tally);
+    if seeds() >= SEEDS {
+        insist_on_writes(&tally);
+    }
     for number in ["number 0", "number 1", "largest number", "any number"] {
         let histories = tally.get(&format!("history under {number}"));
         assert!(histories > 0 || seeds() < SEEDS, "{number}");

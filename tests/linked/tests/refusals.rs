@@ -1,4 +1,4 @@
-//! The refusals of all fourteen calls through the compiled library, each compared
+//! The refusals of all fifteen calls through the compiled library, each compared
 //! with the independent implementation. To the right arguments of a call comes
 //! every fault alone and every pair of faults, which tests the order too.
 
@@ -66,7 +66,7 @@ const SHAPES: [(usize, usize); 8] = [
     (16, 65),
 ];
 
-const CALLS: [(Call, &[u32]); 14] = [
+const CALLS: [(Call, &[u32]); 15] = [
     (Call::Seal, &[0, 1, 2, 3]),
     (Call::Judge, &[0, 0x81, 0x82, 0x83, 1, 2, 3, 6, 7]),
     (Call::Open, &[0, 1, 2, 3, 4, 5]),
@@ -78,6 +78,7 @@ const CALLS: [(Call, &[u32]); 14] = [
     (Call::Third, &[0, 1, 2, 8, 13, 9, 3, 10]),
     (Call::Read, &[0, 0x81, 0x82, 0x83, 1, 2, 8, 13, 9, 3, 6, 7]),
     (Call::Mend, &[0, 0x81, 0x82, 0x83, 1, 2, 8, 13, 9, 6, 7]),
+    (Call::Write, &[0, 0x81, 0x82, 0x83, 1, 2, 8, 13, 9, 3, 6, 7]),
     (Call::Survey, &[0, 1, 2, 8, 13, 11]),
     (Call::Start, &[0, 8, 13]),
     (Call::Count, &[0, 8, 13]),
@@ -94,7 +95,7 @@ fn parameters(call: Call) -> Vec<Parameter> {
         }
         Call::Combine => vec![SizeOfAll, Local, Remote, Out],
         Call::Blank | Call::Mend => of_volume(&[Number]),
-        Call::First | Call::Second | Call::Third => of_volume(&[Number, Plain]),
+        Call::First | Call::Second | Call::Third | Call::Write => of_volume(&[Number, Plain]),
         Call::Read => of_volume(&[Number, Out]),
         Call::Survey => of_volume(&[List]),
         Call::Start | Call::Count => vec![CountOfAll, Count, Map],
@@ -122,7 +123,9 @@ fn values(parameter: Parameter, right: &Arguments) -> Vec<usize> {
             [bounds, wide(n), vec![1 << 60]].concat()
         }
         Number => [vec![0, n - 1, n, n + 1, 65_536], wide(right.number)].concat(),
-        Plain | Sector | Out => sizes_about(s),
+        // The last ones are longer than any sector.
+        Plain => [sizes_about(s), vec![8192, 65_536]].concat(),
+        Sector | Out => sizes_about(s),
         Local | Remote if n == 1 => sizes_about(s),
         Local | Remote => [vec![0, 16 * n], about(n * s, s)].concat(),
         Tag => [vec![0, 15, 17, 32, n * s], about(16 * n, 16)].concat(),
@@ -281,7 +284,7 @@ fn found_by(call: Call, arguments: &Arguments, old: Sealed) -> Option<Sealed> {
     let new = sealed_by(arguments, &arguments.plain);
     match call {
         Call::Seal | Call::Blank => None,
-        Call::First => Some(old),
+        Call::First | Call::Write => Some(old),
         Call::Second => Some(Sealed {
             local: new.local,
             ..old

@@ -25,7 +25,7 @@ fn two_numbers(rng: &mut Rng) -> (u64, u64) {
 }
 
 /// Makes a call by both. Gives the arguments as they are left. What is refused
-/// changes nothing, but a read or a mend of a lost sector sets its bit.
+/// changes nothing, but a read, a mend or a write of a lost sector sets its bit.
 fn insist_on(call: Call, given: &Arguments, due: u32) -> Arguments {
     let (number, left) = call.by_both(given);
     assert_eq!(number, due, "{call:?} under {}", given.volume);
@@ -138,13 +138,16 @@ fn make(call: Call, lent: &mut Arguments) {
     *lent = insist_on(call, lent, 0);
 }
 
-/// Writes a plaintext to a sector, by the three stages.
+/// Writes a plaintext to a sector, by the three stages and in one call, which
+/// leave the same.
 fn write(lent: &mut Arguments, number: usize, plain: &[u8]) {
     lent.number = number;
     lent.plain = plain.to_vec();
+    let in_one_call = insist_on(Call::Write, lent, 0);
     for stage in [Call::First, Call::Second, Call::Third] {
         make(stage, lent);
     }
+    assert!(*lent == in_one_call, "a write left another volume");
 }
 
 fn blank_all(lent: &mut Arguments) {
@@ -193,7 +196,7 @@ fn survey(lent: &Arguments) -> ([usize; 4], Vec<u32>) {
     (counts, list)
 }
 
-/// Read and mend refuse 6, every stage refuses 10, and a survey finds every
+/// Read, mend and write refuse 6, every stage refuses 10, and a survey finds every
 /// sector lost; no lent byte changes. A blank is accepted, and only the sector
 /// that it is made on is lost to its own volume.
 #[test]
@@ -214,6 +217,7 @@ fn a_volume_is_lost_under_the_number_of_another() {
                 lent.number = number;
                 insist_on(Call::Read, &lent, 6);
                 insist_on(Call::Mend, &lent, 6);
+                insist_on(Call::Write, &lent, 6);
                 for stage in [Call::First, Call::Second, Call::Third] {
                     insist_on(stage, &lent, 10);
                 }
@@ -254,6 +258,7 @@ fn no_stage_goes_on_under_the_number_of_another_volume() {
                 insist_on(stage, &under_other, 10);
             }
             insist_on(Call::Mend, &under_other, 6);
+            insist_on(Call::Write, &under_other, 6);
             make(next, &mut lent);
         }
         insist_on_read(&lent, lent.number, &lent.plain);
@@ -313,6 +318,7 @@ fn four_volumes_under_one_key() {
             mixed.number = number;
             insist_on(Call::Read, &mixed, 6);
             insist_on(Call::Mend, &mixed, 6);
+            insist_on(Call::Write, &mixed, 6);
             assert_eq!(survey(&mixed).0, [n - 1, 0, 0, 1]);
         }
     }

@@ -1,4 +1,4 @@
-//! The fourteen calls over one record of arguments, each made by the library and
+//! The fifteen calls over one record of arguments, each made by the library and
 //! by the independent implementation on copies of the same bytes.
 
 // Each test program makes some of the calls.
@@ -26,6 +26,7 @@ pub enum Call {
     Third,
     Read,
     Mend,
+    Write,
     Survey,
     Start,
     Count,
@@ -138,6 +139,7 @@ impl Call {
             Call::Third => linked::third_stage(key, v, s, n, i, plain, local, tag, remote, map),
             Call::Read => linked::read(key, v, s, n, i, local, tag, remote, map, out),
             Call::Mend => linked::mend(key, v, s, n, i, local, tag, remote, map),
+            Call::Write => linked::write(key, v, s, n, i, plain, local, tag, remote, map),
             Call::Survey => linked::survey(key, v, s, n, local, tag, remote, map, list, counts),
             Call::Start => linked::start_map(n, map),
             Call::Count => linked::count_suspects_without_wrapper(n, map, &mut lent.suspects),
@@ -172,6 +174,9 @@ impl Call {
                 answer_number(&volume::read(key, v, s, n, local, tag, remote, map, i, out))
             }
             Call::Mend => answer_number(&volume::mend(key, v, s, n, local, tag, remote, map, i)),
+            Call::Write => answer_number(&volume::write(
+                key, v, s, n, local, tag, remote, map, i, plain,
+            )),
             Call::Survey => survey_by_reference(lent),
             Call::Start => answer_number(&map::start(n, map)),
             Call::Count => count_by_reference(lent),
