@@ -36,8 +36,10 @@ fn histories_through_the_library() {
     for (what, times) in &tally.0 {
         println!("{what}: {times}");
     }
-    let events = tally.get("events") + of_large.get("events");
+    let [events, writes] =
+        ["events", "writes in one call"].map(|what| tally.get(what) + of_large.get(what));
     println!("{events} events agree, from {} seeds", seeds());
+    println!("{writes} of them are writes in one call");
     print_clear("few sectors", &tally);
 }
 

@@ -374,6 +374,7 @@ impl<'a> History<'a> {
                 let kinds = [Kind::Read, Kind::Read, Kind::Mend, Kind::Write];
                 (*self.rng.pick(&kinds), number)
             }
+            // So that writes often meet what damage left.
             (Some(number), Stretch::Cuts) if self.rng.chance(40) => (Kind::Write, number),
             _ => self.choose_call(),
         };
@@ -897,6 +898,7 @@ fn urgency(read: Result<(Verdict, Vec<u8>), Refusal>) -> usize {
     }
 }
 
+/// How a call ended, for the tally.
 fn how(answer: &Answer, cut: bool) -> &'static str {
     match (answer, cut) {
         (Err(_), _) => "refused",

@@ -69,6 +69,7 @@ impl History<'_> {
         if self.stretch != Stretch::AnyWriter {
             self.insist_on_kept(&before, &write, cut.is_some());
         }
+        self.tally.add("writes in one call");
         self.tally_call(request, how(&write.answer, cut.is_some()));
         self.tally_write(&before, &write, &calls, cut);
     }
