@@ -18,7 +18,7 @@ use Rattle.suspects.specs.declared.Mark.the-variants.{Clears, Sets, Keeps}
 use Rattle.suspects.specs.Marks.{isFinished, mapOutcome, mapReadOutcome}
 use Rattle.suspects.proofs.Calls.{map-calls}
 use Rattle.mapped.proofs.Answered.{done-refused}
-use Rattle.writes.specs.Write.{stages, following, callsLeave, writeOutcome}
+use Rattle.writes.specs.Write.{stages, callsLeave, writeOutcome}
 use Rattle.writes.proofs.Following.{after-doubt, after-refusal, wrote}
 use Rattle.writes.proofs.Room.{least-read}
 use Rattle.laptop.specs.declared.Step.{Step}

@@ -1,6 +1,6 @@
 -- A call that answers as one that finished was not refused. Assumes nothing.
 use mathlib.Core.Path.{_≡_, refl, sym, ap, subst, _∙_}
-use mathlib.Core.Logic.{_⊎_, inl, inr}
+use mathlib.Core.Logic.{inl, inr}
 use mathlib.Core.Bool.{Bool, true, false, cond}
 use mathlib.Core.List.{List, []}
 use mathlib.Core.Option.{Option, none, some}
@@ -13,12 +13,12 @@ use Rattle.answers.specs.Rules.{firstOf, Args}
 use Rattle.history.specs.Volume.{Call, blank, first, second, third, mend, read, mirror}
 use Rattle.suspects.specs.declared.Mark.{Mark}
 use Rattle.suspects.specs.declared.Mark.the-variants.{Clears, Sets, Keeps}
-use Rattle.suspects.specs.Marks.{isFinished, finishing, refusing, marks, marked, mapOutcome}
+use Rattle.suspects.specs.Marks.{isFinished, finishing, refusing, marks, mapOutcome}
 use Rattle.suspects.specs.Calls.{callOrder}
 use Rattle.suspects.proofs.Marking.{Ends, refused-ends}
 use Rattle.suspects.proofs.Calls.{map-calls}
-use Rattle.writes.specs.Write.{following, callsLeave, writeOutcome}
-use Rattle.writes.proofs.Following.{after-refusal, wrote}
+use Rattle.writes.specs.Write.{following}
+use Rattle.writes.proofs.Following.{after-refusal}
 
 abbrev pub isKeeps : Mark → Type 0
 isKeeps Clears = ⊥
@@ -68,9 +68,3 @@ module _ (v : Triple) (a : Args) (P m : List ℕ) (k : ℕ) (e : firstOf (callOr
   read-only =
       ap (λ (r : ℕ × (Triple × List ℕ)). following P (r .0)) (map-calls .refuses v a (read (length P)) m k e)
       ∙ after-refusal P k (refusal-unfinished v a (read (length P)) m k e)
-
-  -- and leaves the images
-  pub refused-leaves : writeOutcome mirror v a P m .1 .0 ≡ v
-  refused-leaves =
-      ap (λ (r : ℕ × (Triple × List ℕ)). r .1 .0)
-      (wrote v a P m (map-calls .refuses v a (read (length P)) m k e) (after-refusal P k (refusal-unfinished v a (read (length P)) m k e)) refl)

@@ -1,7 +1,7 @@
 -- The history of a volume with writes. Assumes nothing but the laws of the sealing.
-use mathlib.Core.Path.{_≡_, refl, sym, ap, ap₂, subst, _∙_}
-use mathlib.Core.Logic.{_⊎_, inl, inr}
-use mathlib.Core.Bool.{Bool, true, false}
+use mathlib.Core.Path.{_≡_, refl, sym, ap, subst, _∙_}
+use mathlib.Core.Logic.{inl}
+use mathlib.Core.Bool.{true}
 use mathlib.Core.List.{List, [], _∷_, _++_, append-assoc}
 use mathlib.Core.Option.{Option, none, some}
 use Prim.Native.Nat.{ℕ, _<_}
@@ -15,7 +15,7 @@ use Rattle.verdict.specs.Judging.{verdictNumber}
 use Rattle.answers.specs.Answers.{doubtNumber}
 use Rattle.answers.specs.Rules.{Rule, firstOf, Args, Volume, lengthRules}
 use Rattle.answers.proofs.Rules.{none-left}
-use Rattle.history.specs.Machine.{Held, kept, State, machine, start, called, Told, toldFinished}
+use Rattle.history.specs.Machine.{kept, State, machine, start, called, Told, toldFinished}
 use Rattle.history.specs.Power.{Fate, finished, cut, call, Images, LentBytes, isRefused, told, torn}
 use Rattle.history.specs.Volume.{Call, first, second, third, mend, read, late, mirror, unless, landed, sector, sealing}
 use Rattle.history.specs.History.{at, own}
@@ -26,14 +26,14 @@ use Rattle.history.proofs.Options.{none-some}
 use Rattle.history.proofs.Events.{put-same}
 use Rattle.suspects.specs.Marks.{isFinished, firstRules, mapOutcome}
 use Rattle.suspects.specs.Calls.{callOrder}
-use Rattle.suspects.specs.History.{Lent, lentRefusal, leavesLent, lentLeaves, lentSeen, LentAllowed, AllLentAllowed, runLent, holdLent, FoundLent, PromiseLent, PromisedLent}
+use Rattle.suspects.specs.History.{Lent, lentRefusal, leavesLent, lentLeaves, lentSeen, AllLentAllowed, runLent, holdLent, FoundLent, PromiseLent, PromisedLent}
 use Rattle.suspects.proofs.Calls.{map-calls}
 use Rattle.suspects.proofs.History.{demand-3-with-maps}
 use Rattle.suspects.proofs.Marking.{map-passed}
-use Rattle.writes.specs.Write.{stages, following, callsLeave, writeOutcome}
+use Rattle.writes.specs.Write.{following, callsLeave, writeOutcome}
 use Rattle.writes.specs.Meaning.{callsAnswer, writeRules, WritePasses}
-use Rattle.writes.specs.History.{WriteCut, beforeCall, inCall, afterCall, WriteFate, completed, cutAt, LaptopEvent, single, write, writeCalls, made, broken, callEvents, events, WriteCutOf, WriteFateOf, laptopLeaves, LaptopAllowed, AllLaptopAllowed, runLaptop, holdLaptop, OldOrNew, NotClashing, heldAfter, WriteKeeps, WritePromised, PromisedLaptop, LaptopHistory}
-use Rattle.writes.proofs.Accepted.{finished-accepted, read-only, refused-leaves}
+use Rattle.writes.specs.History.{beforeCall, inCall, afterCall, WriteFate, completed, cutAt, LaptopEvent, single, write, writeCalls, made, callEvents, events, WriteFateOf, laptopLeaves, LaptopAllowed, AllLaptopAllowed, runLaptop, holdLaptop, OldOrNew, NotClashing, heldAfter, WriteKeeps, WritePromised, PromisedLaptop, LaptopHistory}
+use Rattle.writes.proofs.Accepted.{finished-accepted, read-only}
 use Rattle.writes.proofs.Following.{after-doubt}
 use Rattle.writes.proofs.Meaning.{number-by, one-verdict, whole-runs, doubtful-runs}
 use Rattle.writes.proofs.Machine.{Writing, AllWriting, following-writing, writing-lent, keeps-old-or-new, keeps-others}

@@ -1,23 +1,19 @@
 -- The two theorems about the map, over lists with writes. Assumes nothing but the laws of the sealing.
 use mathlib.Core.Path.{_≡_, refl, sym, ap, subst, _∙_}
-use mathlib.Core.Bool.{Bool, false}
 use mathlib.Core.List.{List, [], _∷_, _++_}
 use mathlib.Core.Option.{Option, none, some}
-use Prim.Native.Nat.{ℕ, _<_}
-use lib.Dec.{ltb}
+use Prim.Native.Nat.{ℕ}
 use lib.ListN.{length}
 use Rattle.bits.specs.Bits.{bit}
 use Rattle.block.specs.Bytes.{Bytes}
-use Rattle.mode.specs.Sealing.{Triple}
 use Rattle.answers.specs.Rules.{firstOf, Args, Volume}
 use Rattle.map.specs.Map.{started}
-use Rattle.history.specs.HistoryFrom.{AnyBytes}
 use Rattle.history.specs.Volume.{Call, read, mirror}
 use Rattle.history.proofs.Options.{none-some}
 use Rattle.report.specs.Survey.{WholeAt}
 use Rattle.suspects.specs.Marks.{mapOutcome}
 use Rattle.suspects.specs.Calls.{callOrder}
-use Rattle.suspects.specs.Lists.{Disk, disk, Step, stepLeaves, listLeaves, listNotes, ruledAll, AllTake}
+use Rattle.suspects.specs.Lists.{Disk, disk, Step, stepLeaves, listLeaves, AllTake}
 use Rattle.suspects.proofs.Rule.{map-rule}
 use Rattle.suspects.proofs.Clear.{clear-is-whole}
 use Rattle.writes.specs.Write.{callsLeave, writeOutcome}

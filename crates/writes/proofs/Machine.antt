@@ -1,6 +1,6 @@
 -- A write's calls on the plain machine alone, whatever the images. Assumes nothing.
-use mathlib.Core.Path.{_≡_, refl, sym, ap, subst, _∙_}
-use mathlib.Core.Logic.{_⊎_, inl, inr}
+use mathlib.Core.Path.{_≡_, refl, sym, ap, subst}
+use mathlib.Core.Logic.{inl, inr}
 use mathlib.Core.Bool.{Bool, true, false, cond}
 use mathlib.Core.List.{List, [], _∷_}
 use mathlib.Core.Option.{Option, none, some}
@@ -10,7 +10,7 @@ use Rattle.block.specs.Bytes.{Bytes}
 use Rattle.mode.specs.Scheme.{Place, local, remote}
 use Rattle.answers.specs.Rules.{Args}
 use Rattle.history.specs.Volume.{Call, blank, first, second, third, mend, read}
-use Rattle.history.specs.Machine.{Told, toldFinished, toldCut, Seen, called, Held, kept, step, State, put, machine}
+use Rattle.history.specs.Machine.{Told, toldFinished, toldCut, called, Held, kept, step, State, machine}
 use Rattle.history.specs.Power.{LentBytes}
 use Rattle.history.proofs.Events.{put-same, put-other}
 use Rattle.suspects.specs.Marks.{isFinished}

@@ -1,7 +1,7 @@
 -- A write by what fits. Assumes nothing but the laws of the sealing.
-use mathlib.Core.Path.{_≡_, refl, sym, ap, ap₂, subst, _∙_}
+use mathlib.Core.Path.{_≡_, refl, sym, ap, subst, _∙_}
 use mathlib.Core.Logic.{_⊎_, inl, inr}
-use mathlib.Core.Bool.{Bool, true, false, not, cond}
+use mathlib.Core.Bool.{Bool, true, false, not}
 use mathlib.Core.List.{List, [], _∷_, _++_, append-assoc}
 use mathlib.Core.Option.{Option, none, some}
 use Prim.Native.Nat.{ℕ, _/_, _<_}
@@ -22,7 +22,7 @@ use Rattle.answers.proofs.Passing.{Common, common, length-due}
 use Rattle.history.specs.HistoryFrom.{AnyBytes}
 use Rattle.history.specs.Meaning.{Passes, Is, FitsAt, sealedIn, sealedAll, CallMeans}
 use Rattle.history.specs.Power.{Images}
-use Rattle.history.specs.Volume.{Call, blank, first, second, third, mend, read, lengths, write, store, judgeRules, late, sector, sealing, mirror, outcome, readOutcome}
+use Rattle.history.specs.Volume.{Call, blank, first, second, third, mend, read, lengths, store, judgeRules, sector, sealing, mirror, outcome, readOutcome}
 use Rattle.history.proofs.Demand3.{mirror-sound}
 use Rattle.history.proofs.Images.{any-bytes, images-write, sector-write, passed-lawful}
 use Rattle.history.proofs.Meaning.{calls-mean}

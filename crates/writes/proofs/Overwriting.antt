@@ -7,7 +7,7 @@ use native.Mathlib.Decide.{ℕ-discrete}
 use lib.ListN.{length}
 use Rattle.bits.specs.Bits.{Words, bit, mark}
 use Rattle.bits.proofs.Bits.{bits-facts}
-use Rattle.block.specs.Bytes.{Plain, part, patch}
+use Rattle.block.specs.Bytes.{part, patch}
 use Rattle.block.proofs.Parts.{length-patch, part-patch, part-other, parts-all}
 use Rattle.mode.specs.Sealing.{Triple}
 use Rattle.mode.specs.Scheme.{Place, local, tag, remote, wide}

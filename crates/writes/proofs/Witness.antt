@@ -28,13 +28,13 @@ use Rattle.history.proofs.Meaning.{calls-mean}
 use Rattle.history.proofs.Refusals.{passes-early}
 use Rattle.history.proofs.Sector.{AllPlain}
 use Rattle.suspects.specs.Marks.{isFinished, firstRules, mapOutcome}
-use Rattle.suspects.specs.History.{Lent, lentRefusal, runLent, holdLent}
+use Rattle.suspects.specs.History.{Lent, lentRefusal, holdLent}
 use Rattle.suspects.proofs.Marking.{nine, right-words}
 use Rattle.suspects.proofs.Calls.{map-calls}
 use Rattle.writes.specs.Write.{stages, following, callsLeave}
 use Rattle.writes.specs.Meaning.{callsAnswer, WritePasses}
 use Rattle.writes.specs.History.{WriteCut, inCall, afterCall, WriteFate, completed, cutAt, LaptopEvent, single, write, writeCalls, made, broken, callEvents, events, WriteCutOf, WriteFateOf, laptopLeaves, LaptopAllowed, AllLaptopAllowed, runLaptop, holdLaptop}
-use Rattle.writes.specs.Witness.{Doubt, CutIn, Met, EachCut, EveryCut}
+use Rattle.writes.specs.Witness.{Doubt, CutIn, Met, EveryCut}
 use Rattle.writes.proofs.Accepted.{finished-accepted}
 use Rattle.writes.proofs.Following.{after-doubt}
 use Rattle.writes.proofs.Meaning.{number-by, whole-runs, doubtful-runs}

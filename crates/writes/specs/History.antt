@@ -6,16 +6,16 @@ use mathlib.Core.Logic.{_⊎_}
 use mathlib.Core.Bool.{true}
 use mathlib.Core.List.{List, [], _∷_}
 use mathlib.Core.Option.{Option, none, some}
-use Prim.Native.Nat.{ℕ, _<_}
+use Prim.Native.Nat.{ℕ}
 use lib.ListN.{length}
-use Rattle.block.specs.Bytes.{Bytes, Plain}
+use Rattle.block.specs.Bytes.{Bytes}
 use Rattle.mode.specs.Sealing.{Triple}
 use Rattle.mode.specs.Scheme.{Place}
 use Rattle.verdict.specs.Verdict.{Means, clashing}
 use Rattle.answers.specs.Rules.{firstOf, Args, Volume}
 use Rattle.history.specs.Volume.{Call, read, mirror}
 use Rattle.history.specs.Machine.{Held, kept, State, start}
-use Rattle.history.specs.Power.{Cut, finished, cut, Event, call, Images, CutOf}
+use Rattle.history.specs.Power.{Cut, finished, cut, call, Images, CutOf}
 use Rattle.history.specs.History.{at, own}
 use Rattle.suspects.specs.Marks.{isFinished, mapOutcome}
 use Rattle.suspects.specs.Calls.{callOrder}
