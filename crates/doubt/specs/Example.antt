@@ -21,4 +21,4 @@ SomeDoubt = Doubt someVolume 0 tag (replicate 16 0)
 
 -- from any images, with any plaintext, and whatever the cuts leave
 abbrev pub SomeCuts : Type 0
-SomeCuts = (v : Triple) → Images 16 1 v → (P : List ℕ) → Plain 16 P → (k : Cut) → CutOf 16 (cut k) → EachCut someVolume v 0 P
+SomeCuts = (v : Triple) → Images 16 1 v → (P : List ℕ) → Plain 16 P → (k : Cut) → CutOf 16 (cut k) → EachCut someVolume v 0 P k

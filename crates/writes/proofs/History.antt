@@ -16,7 +16,7 @@ use Rattle.answers.specs.Answers.{doubtNumber}
 use Rattle.answers.specs.Rules.{Rule, firstOf, Args, Volume, lengthRules}
 use Rattle.answers.proofs.Rules.{none-left}
 use Rattle.history.specs.Machine.{kept, State, machine, start, called, Told, toldFinished}
-use Rattle.history.specs.Power.{Fate, finished, cut, call, Images, LentBytes, isRefused, told, torn}
+use Rattle.history.specs.Power.{Cut, Fate, finished, cut, call, Images, LentBytes, isRefused, told, torn}
 use Rattle.history.specs.Volume.{Call, first, second, third, mend, read, late, mirror, unless, landed, sector, sealing}
 use Rattle.history.specs.History.{at, own}
 use Rattle.history.specs.HistoryFrom.{AnyBytes}
@@ -32,7 +32,7 @@ use Rattle.suspects.proofs.History.{demand-3-with-maps}
 use Rattle.suspects.proofs.Marking.{map-passed}
 use Rattle.writes.specs.Write.{following, callsLeave, writeOutcome}
 use Rattle.writes.specs.Meaning.{callsAnswer, writeRules, WritePasses}
-use Rattle.writes.specs.History.{beforeCall, inCall, afterCall, WriteFate, completed, cutAt, LaptopEvent, single, write, writeCalls, made, callEvents, events, WriteFateOf, laptopLeaves, LaptopAllowed, AllLaptopAllowed, runLaptop, holdLaptop, OldOrNew, NotClashing, heldAfter, WriteKeeps, WritePromised, PromisedLaptop, LaptopHistory}
+use Rattle.writes.specs.History.{WriteCut, beforeCall, inCall, afterCall, WriteFate, completed, cutAt, LaptopEvent, single, write, writeCalls, made, broken, callEvents, events, WriteCutOf, WriteFateOf, laptopLeaves, LaptopAllowed, AllLaptopAllowed, runLaptop, holdLaptop, OldOrNew, NotClashing, heldAfter, WriteKeeps, WritePromised, PromisedLaptop, LaptopHistory}
 use Rattle.writes.proofs.Accepted.{finished-accepted, read-only}
 use Rattle.writes.proofs.Following.{after-doubt}
 use Rattle.writes.proofs.Meaning.{number-by, one-verdict, whole-runs, doubtful-runs}
@@ -48,6 +48,15 @@ unfolding isFinished
 doubt-finished local = refl
 doubt-finished tag = refl
 doubt-finished remote = refl
+
+-- the calls xs have finished, and then
+abbrev pub after-all : List Call → WriteCut → WriteCut
+after-all [] f = f
+after-all (x ∷ xs) f = afterCall (after-all xs f)
+
+pub after-all-of : (s : ℕ) (xs : List Call) (f : WriteCut) → WriteCutOf s f → WriteCutOf s (after-all xs f)
+after-all-of s [] f p = p
+after-all-of s (x ∷ xs) f p = after-all-of s xs f p
 
 module _ (vol : Volume) where
   -- ---- lists of events with maps, one behind the other
@@ -71,6 +80,17 @@ module _ (vol : Volume) where
     pub calls-lead : (cs : List Call) (d : Triple × List ℕ) → runLent vol (d .0) (callEvents a completed cs d) ≡ callsLeave mirror a cs d .0
     calls-lead [] d = refl
     calls-lead (c ∷ cs) d = calls-lead cs (mapOutcome mirror (d .0) a c (d .1) .1)
+
+    -- power goes after the calls xs have finished: in the next, or before it
+    ends-in : (k : Cut) (xs : List Call) (c : Call) (ys : List Call) (d : Triple × List ℕ)
+        → callEvents a (cutAt (after-all xs (inCall k))) (xs ++ (c ∷ ys)) d ≡ callEvents a completed xs d ++ (broken a c k (callsLeave mirror a xs d .1) ∷ [])
+    ends-in k [] c ys d = refl
+    ends-in k (x ∷ xs) c ys d = ap (λ (ls : List Lent). made a x (d .1) ∷ ls) (ends-in k xs c ys (mapOutcome mirror (d .0) a x (d .1) .1))
+
+    ends-between : (xs ys : List Call) (d : Triple × List ℕ) → callEvents a (cutAt (after-all xs beforeCall)) (xs ++ ys) d ≡ callEvents a completed xs d
+    ends-between [] [] d = refl
+    ends-between [] (y ∷ ys) d = refl
+    ends-between (x ∷ xs) ys d = ap (λ (ls : List Lent). made a x (d .1) ∷ ls) (ends-between xs ys (mapOutcome mirror (d .0) a x (d .1) .1))
 
     -- each is allowed in a list where the write takes the volume's key, number, s and n
     module _ (P : List ℕ) (bytes : Bytes P) (takes : a .volume ≡ vol) where
@@ -191,8 +211,9 @@ module _ (vol : Volume) where
         go none e = events-allowed a P (z .1) (z .0 e) (writeCalls v a P m) calls-writing f (z .2) (v, m)
         go (some k) e = subst (AllLentAllowed vol v) (sym (refused-events f k e)) (lone-allowed a (read (length P)) v m k e tt f (z .2))
 
-    write-keeps : Images (vol .size) (vol .count) v → (h : State) (f : WriteFate) → LaptopAllowed vol v (write a P m f) → WriteKeeps vol v h a P m f
-    write-keeps I h f z = record {
+    write-keeps : Images (vol .size) (vol .count) v → (h : State) (f : WriteFate) → LaptopAllowed vol v (write a P m f)
+        → PromisedLent vol (laptopLeaves vol v (write a P m f)) (heldAfter vol v h a P m f) → WriteKeeps vol v h a P m f
+    write-keeps I h f z after = record {
       old-or-new = λ Q d e. events-keep a Q P (writeCalls v a P m) calls-writing f (v, m) h (d, inl e);
       refused = λ k e. (
         sym (write-leads f) ∙ ap (runLent vol v) (refused-events f k e) ∙ lone-leaves a (read (length P)) v m k e f,
@@ -202,7 +223,15 @@ module _ (vol : Volume) where
         ap (λ (u : Triple). at vol u j) (sym (write-leads f)) ∙ other-bytes a (writeCalls v a P m) f (v, m) I (write-allowed f z) j n,
         held-others a (writeCalls v a P m) f (v, m) h j n,
       );
+      demand-after = after;
     }
+
+    pub power-in : (k : Cut) (xs : List Call) (c : Call) (ys : List Call) → writeCalls v a P m ≡ xs ++ (c ∷ ys)
+        → events v (write a P m (cutAt (after-all xs (inCall k)))) ≡ callEvents a completed xs (v, m) ++ (broken a c k (callsLeave mirror a xs (v, m) .1) ∷ [])
+    power-in k xs c ys e = ap (λ (cs : List Call). callEvents a (cutAt (after-all xs (inCall k))) cs (v, m)) e ∙ ends-in a k xs c ys (v, m)
+
+    power-between : (xs ys : List Call) → writeCalls v a P m ≡ xs ++ ys → events v (write a P m (cutAt (after-all xs beforeCall))) ≡ callEvents a completed xs (v, m)
+    power-between xs ys e = ap (λ (cs : List Call). callEvents a (cutAt (after-all xs beforeCall)) cs (v, m)) e ∙ ends-between a xs ys (v, m)
 
     -- ---- a write that finishes
 
@@ -263,10 +292,13 @@ module _ (vol : Volume) where
         let w = one-verdict v b a P bytes m e in
         found-by v a P m b bytes e (w .0) (w .1) (λ is. found .not-lost (ours lost is)) (λ is. n (ours clashing is))
 
-    write-promised : (a : Args) (P m : List ℕ) → WritePromised vol v h a P m
-    write-promised a P m = record {
-      keeps = write-keeps v a P m I h;
-      finished = λ z. finished-new v a P m (any-bytes (vol .size) (vol .count) v I) (z .1) h;
+    write-promised : ((e : LaptopEvent) → LaptopAllowed vol v e → PromisedLent vol (laptopLeaves vol v e) (holdLent vol v h (events v e)))
+        → (a : Args) (P m : List ℕ) → WritePromised vol v h a P m
+    write-promised after a P m = record {
+      power-in = λ k xs c ys e. (after-all xs (inCall k), after-all-of (vol .size) xs (inCall k), power-in v a P m k xs c ys e);
+      power-between = λ xs ys e. (after-all xs beforeCall, after-all-of (vol .size) xs beforeCall tt, power-between v a P m xs ys e);
+      keeps = λ f z. write-keeps v a P m I h f z (after (write a P m f) z);
+      finished-write = λ z. finished-new v a P m (any-bytes (vol .size) (vol .count) v I) (z .1) h;
       accepted = write-accepted a P m;
       as-calls = as-calls v a P m;
     }
@@ -303,13 +335,45 @@ module _ (vol : Volume) where
             ∙ r .holds (holdLent vol v h (events v e));
       }
 
-  promised : (v : Triple) → Images (vol .size) (vol .count) v → (es : List LaptopEvent) → AllLaptopAllowed vol v es → PromisedLaptop vol (runLaptop vol v es) (holdLaptop vol v start es)
-  promised v I es y =
-      let r = led v es y in
-      let p = demand-3-with-maps .from-gone vol v I (r .lents) (r .allowed) in
-      let images : Images (vol .size) (vol .count) (runLaptop vol v es) = subst (Images (vol .size) (vol .count)) (r .images) (p .1) in
-      let demand : PromisedLent vol (runLaptop vol v es) (holdLaptop vol v start es) = subst (PromisedLent vol (runLaptop vol v es)) (r .holds start) (subst (λ (u : Triple). PromisedLent vol u (holdLent vol v start (r .lents))) (r .images) (p .0)) in
-      record { demand = demand; images = images; writes = write-promised (runLaptop vol v es) (holdLaptop vol v start es) images demand }
+  -- lists with writes, one behind the other
+  pub laptop-allowed-both : (xs ys : List LaptopEvent) (v : Triple) → AllLaptopAllowed vol v xs → AllLaptopAllowed vol (runLaptop vol v xs) ys → AllLaptopAllowed vol v (xs ++ ys)
+  laptop-allowed-both [] ys v p q = q
+  laptop-allowed-both (x ∷ xs) ys v p q = (p .0, laptop-allowed-both xs ys (laptopLeaves vol v x) (p .1) q)
+
+  pub laptop-run-both : (xs ys : List LaptopEvent) (v : Triple) → runLaptop vol v (xs ++ ys) ≡ runLaptop vol (runLaptop vol v xs) ys
+  laptop-run-both [] ys v = refl
+  laptop-run-both (x ∷ xs) ys v = laptop-run-both xs ys (laptopLeaves vol v x)
+
+  pub laptop-hold-both : (xs ys : List LaptopEvent) (v : Triple) (h : State) → holdLaptop vol v h (xs ++ ys) ≡ holdLaptop vol (runLaptop vol v xs) (holdLaptop vol v h xs) ys
+  laptop-hold-both [] ys v h = refl
+  laptop-hold-both (x ∷ xs) ys v h = laptop-hold-both xs ys (laptopLeaves vol v x) (holdLent vol v h (events v x))
+
+  -- demand 3 after a list
+  module _ (v : Triple) (I : Images (vol .size) (vol .count) v) where
+    demanded : (es : List LaptopEvent) → AllLaptopAllowed vol v es → PromisedLent vol (runLaptop vol v es) (holdLaptop vol v start es) × Images (vol .size) (vol .count) (runLaptop vol v es)
+    demanded es y =
+        let r = led v es y in
+        let p = demand-3-with-maps .from-gone vol v I (r .lents) (r .allowed) in (
+          subst (PromisedLent vol (runLaptop vol v es)) (r .holds start) (subst (λ (u : Triple). PromisedLent vol u (holdLent vol v start (r .lents))) (r .images) (p .0)),
+          subst (Images (vol .size) (vol .count)) (r .images) (p .1),
+        )
+
+    -- and after one more event
+    demanded-after : (es : List LaptopEvent) → AllLaptopAllowed vol v es → (e : LaptopEvent) → LaptopAllowed vol (runLaptop vol v es) e
+        → PromisedLent vol (laptopLeaves vol (runLaptop vol v es) e) (holdLent vol (runLaptop vol v es) (holdLaptop vol v start es) (events (runLaptop vol v es) e))
+    demanded-after es y e z =
+        subst (PromisedLent vol (laptopLeaves vol (runLaptop vol v es) e)) (laptop-hold-both es (e ∷ []) v start)
+        (subst (λ (u : Triple). PromisedLent vol u (holdLaptop vol v start (es ++ (e ∷ [])))) (laptop-run-both es (e ∷ []) v)
+        (demanded (es ++ (e ∷ [])) (laptop-allowed-both es (e ∷ []) v y (z, tt)) .0))
+
+    promised : (es : List LaptopEvent) → AllLaptopAllowed vol v es → PromisedLaptop vol (runLaptop vol v es) (holdLaptop vol v start es)
+    promised es y =
+        let d = demanded es y in
+        record {
+          demand = d .0;
+          images = d .1;
+          each-write = write-promised (runLaptop vol v es) (holdLaptop vol v start es) (d .1) (d .0) (demanded-after es y);
+        }
 
 pub laptop-history : LaptopHistory
 laptop-history = record { from-gone = promised }

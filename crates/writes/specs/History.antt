@@ -4,7 +4,7 @@
 use mathlib.Core.Path.{_≡_}
 use mathlib.Core.Logic.{_⊎_}
 use mathlib.Core.Bool.{true}
-use mathlib.Core.List.{List, [], _∷_}
+use mathlib.Core.List.{List, [], _∷_, _++_}
 use mathlib.Core.Option.{Option, none, some}
 use Prim.Native.Nat.{ℕ}
 use lib.ListN.{length}
@@ -20,7 +20,7 @@ use Rattle.history.specs.History.{at, own}
 use Rattle.suspects.specs.Marks.{isFinished, mapOutcome}
 use Rattle.suspects.specs.Calls.{callOrder}
 use Rattle.suspects.specs.History.{Lent, lentLeaves, LentAllowed, runLent, holdLent, PromisedLent}
-use Rattle.writes.specs.Write.{following, writeOutcome}
+use Rattle.writes.specs.Write.{following, callsLeave, writeOutcome}
 use Rattle.writes.specs.Meaning.{WritePasses}
 
 -- ---- events
@@ -129,12 +129,21 @@ module _ (vol : Volume) where
       pub refused : (k : ℕ) → firstOf (callOrder v a (read (length P)) m) ≡ some k → (laptopLeaves v (write a P m f) ≡ v) × (heldAfter f ≡ h)
       -- and none changes another sector, or what is held of it
       pub others : (j : ℕ) → (j ≡ a .number → ⊥) → (at vol (laptopLeaves v (write a P m f)) j ≡ at vol v j) × (heldAfter f j ≡ h j)
+      -- demand 3 holds of the images that it leaves: what is held is what calls then give
+      pub demand-after : PromisedLent vol (laptopLeaves v (write a P m f)) (heldAfter f)
 
     pub record WritePromised : Type 0 where
-      -- wherever power goes
+      -- power goes in any call of the write, and leaves any k there, after the calls before it have finished,
+      pub power-in : (k : Cut) (xs : List Call) (c : Call) (ys : List Call) → writeCalls v a P m ≡ xs ++ (c ∷ ys)
+          → (f : WriteCut) × (CutOf (vol .size) (cut k) → WriteCutOf (vol .size) f)
+          × (events v (write a P m (cutAt f)) ≡ callEvents a completed xs (v, m) ++ (broken a c k (callsLeave mirror a xs (v, m) .1) ∷ []))
+      -- or between any two, before the first or behind the last
+      pub power-between : (xs ys : List Call) → writeCalls v a P m ≡ xs ++ ys
+          → (f : WriteCut) × WriteCutOf (vol .size) f × (events v (write a P m (cutAt f)) ≡ callEvents a completed xs (v, m))
+      -- wherever it goes
       pub keeps : (f : WriteFate) → LaptopAllowed v (write a P m f) → WriteKeeps f
       -- after a finished write, one that was not refused, the sector is kept with the new plaintext, without doubt
-      pub finished : LaptopAllowed v (write a P m completed) → isFinished (writeOutcome mirror v a P m .0) ≡ true → heldAfter completed (a .number) ≡ kept P none
+      pub finished-write : LaptopAllowed v (write a P m completed) → isFinished (writeOutcome mirror v a P m .0) ≡ true → heldAfter completed (a .number) ≡ kept P none
       -- and a sector that is kept and not clashing takes a write that no refusal before 6 turns away
       pub accepted : a .volume ≡ vol → Bytes P → WritePasses v a P m → (Q : List ℕ) (d : Option Place) → h (a .number) ≡ kept Q d → NotClashing v (a .number)
           → isFinished (writeOutcome mirror v a P m .0) ≡ true
@@ -145,7 +154,7 @@ module _ (vol : Volume) where
     -- what demand 3 promises
     pub demand : PromisedLent vol v h
     pub images : Images (vol .size) (vol .count) v
-    pub writes : (a : Args) (P m : List ℕ) → WritePromised v h a P m
+    pub each-write : (a : Args) (P m : List ℕ) → WritePromised v h a P m
 
 -- from images of any bytes, all sectors gone, after every list of events and writes
 pub record LaptopHistory : Type 0 where
