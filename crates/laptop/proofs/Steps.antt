@@ -1,11 +1,9 @@
 -- What a write's read answers, and what its calls leave, one after the other. Assumes nothing.
-use mathlib.Core.Path.{_≡_, refl, sym, ap, subst, _∙_}
-use mathlib.Core.Bool.{Bool, true, false, cond}
+use mathlib.Core.Path.{_≡_, refl, sym, ap, _∙_}
 use mathlib.Core.List.{List, [], _∷_}
 use Prim.Native.Nat.{ℕ, min}
 use lib.ListN.{length}
 use Rattle.mode.specs.Sealing.{Triple}
-use Rattle.answers.specs.declared.Done.the-variants as D
 use Rattle.answers.specs.declared.Judged.{Judged}
 use Rattle.answers.specs.declared.Judged.the-variants as J
 use Rattle.answers.specs.declared.Place as E
@@ -13,13 +11,10 @@ use Rattle.answers.specs.declared.Refusal.{Refusal}
 use Rattle.answers.specs.Answers.{placeNamed, judgedNumber, refusalNumber}
 use Rattle.answers.specs.Rules.{Args}
 use Rattle.history.specs.Volume.{Call, first, second, third, mend, read, mirror}
-use Rattle.suspects.specs.declared.Mark.{Mark}
-use Rattle.suspects.specs.declared.Mark.the-variants.{Clears, Sets, Keeps}
-use Rattle.suspects.specs.Marks.{isFinished, mapOutcome, mapReadOutcome}
+use Rattle.suspects.specs.Marks.{mapOutcome, mapReadOutcome}
 use Rattle.suspects.proofs.Calls.{map-calls}
-use Rattle.mapped.proofs.Answered.{done-refused}
 use Rattle.writes.specs.Write.{stages, callsLeave, writeOutcome}
-use Rattle.writes.proofs.Following.{after-doubt, after-refusal, wrote}
+use Rattle.writes.proofs.Following.{after-doubt, after-refusal, refusal-apart, wrote}
 use Rattle.writes.proofs.Room.{least-read}
 use Rattle.laptop.specs.declared.Step.{Step}
 use Rattle.laptop.specs.Inner.{callOf}
@@ -54,18 +49,6 @@ module _ (a : Args) where
 
 -- ---- the write
 
-not-finished : (f : Refusal) → isFinished (refusalNumber f) ≡ false
-not-finished f = go (isFinished (refusalNumber f)) (done-refused Clears {d = D.Refused f} refl)
-  where
-    isKeeps : Mark → Type 0
-    isKeeps Clears = ⊥
-    isKeeps Sets = ⊥
-    isKeeps Keeps = Unit {0}
-
-    go : (b : Bool) → Keeps ≡ cond b Clears Keeps → b ≡ false
-    go true e = absurd (subst isKeeps e tt)
-    go false e = refl
-
 module _ (v : Triple) (a : Args) (P m : List ℕ) where
   module _ {j : Judged} {d : Triple × List ℕ} (reads : mapOutcome mirror v a (read (length P)) m ≡ (judgedNumber j, d)) where
     answered : {i : Judged} → j ≡ i → mapOutcome mirror v a (read (length P)) m ≡ (judgedNumber i, d)
@@ -79,4 +62,4 @@ module _ (v : Triple) (a : Args) (P m : List ℕ) where
     wrote-doubtful {p} q h g = wrote v a P m (answered q) (after-doubt P (placeNamed p)) (after-one a (stages P) mend (d .0) (d .1) h g)
 
     pub wrote-refused : {f : Refusal} → j ≡ J.Refused f → writeOutcome mirror v a P m ≡ (refusalNumber f, d)
-    wrote-refused {f} q = wrote v a P m (answered q) (after-refusal P (refusalNumber f) (not-finished f)) refl
+    wrote-refused {f} q = wrote v a P m (answered q) (after-refusal P (refusalNumber f) (refusal-apart f)) refl

@@ -1,5 +1,8 @@
 // The write in one call, for the laptop product (change request S-6). It sees the promises of the calls with a map, and none of their code:
 // a read, a mend and the three stages, one after the other on one sector. It takes any input and checks it for itself, by its read.
+//
+// Its contract is what these calls leave. No contract says which calls are made on the way, or in which order, and a power cut is only safe
+// with these: that is read here, where no other call stands, and tests/check_order sees it in the stores of the compiled library.
 use answers::Judged;
 ghost use mathlib.Core.Path.{_≡_};
 ghost use Prim.Native.Nat.{min};
@@ -59,7 +62,7 @@ fn judge_sector(
 }
 
 // Makes one of the calls that follow the read. Its answer is not looked at: after a read that is not refused none of them refuses, which is
-// proved of the definitions (`WriteFacts`).
+// proved of the definition (`WriteMeans`).
 fn make_call(
     step: Step,
     key: &[u8],

@@ -130,5 +130,6 @@ pub as-sectors : AsSectors
 as-sectors = record {
   reads = λ v k volume s n i out m e right. map-reads v k volume s n i m right out e;
   blanks = λ v k volume s n i m e right. map-blanks v k volume s n i m right e;
+  write-answers = λ v b k volume s n i P bytes m w e. same-number v k volume s n i b P bytes m w e;
   writes = λ v b k volume s n i P bytes m w e f. writes v k volume s n i b P bytes m w e f;
 }

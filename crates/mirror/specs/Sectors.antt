@@ -26,6 +26,8 @@ pub record AsSectors : Type 0 where
   pub blanks : (v : Triple) (k : Key) (volume s n i : ℕ) (m : List ℕ) → firstOf (early v (args k volume s n i) blank) ≡ none → length m ≡ mapWords n
       → mapOutcome mirror v (args k volume s n i) blank m
       ≡ (0, (writeAll s i (on (sealCall k volume i (replicate s 0) (sectorOf s i v) .1)) (local ∷ tag ∷ remote ∷ []) v, mark i false m))
+  pub write-answers : (v : Triple) → AnyBytes v → (k : Key) (volume s n i : ℕ) (P : List ℕ) → Bytes P → (m : List ℕ) → Words m
+      → WritePasses v (args k volume s n i) P m → writeOutcome mirror v (args k volume s n i) P m .0 ≡ judgeCall k volume i (sectorOf s i v) P .0
   pub writes : (v : Triple) → AnyBytes v → (k : Key) (volume s n i : ℕ) (P : List ℕ) → Bytes P → (m : List ℕ) → Words m
       → WritePasses v (args k volume s n i) P m → isFinished (judgeCall k volume i (sectorOf s i v) P .0) ≡ true
       → writeOutcome mirror v (args k volume s n i) P m

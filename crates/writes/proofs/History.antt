@@ -35,7 +35,7 @@ use Rattle.writes.specs.Meaning.{callsAnswer, writeRules, WritePasses}
 use Rattle.writes.specs.History.{WriteCut, beforeCall, inCall, afterCall, WriteFate, completed, cutAt, LaptopEvent, single, write, writeCalls, made, broken, callEvents, events, WriteCutOf, WriteFateOf, laptopLeaves, LaptopAllowed, AllLaptopAllowed, runLaptop, holdLaptop, OldOrNew, NotClashing, heldAfter, WriteKeeps, WritePromised, PromisedLaptop, LaptopHistory}
 use Rattle.writes.proofs.Accepted.{finished-accepted, read-only}
 use Rattle.writes.proofs.Following.{after-doubt}
-use Rattle.writes.proofs.Meaning.{number-by, one-verdict, whole-runs, doubtful-runs}
+use Rattle.writes.proofs.Meaning.{read-by, number-by, one-verdict, whole-runs, doubtful-runs}
 use Rattle.writes.proofs.Machine.{Writing, AllWriting, following-writing, writing-lent, keeps-old-or-new, keeps-others}
 
 -- the numbers of calls that finished
@@ -241,19 +241,15 @@ module _ (vol : Volume) where
         none-left own (writeRules v a P m) (ap firstOf (append-assoc (firstRules v a m) (lengthRules (length P) (a .volume .size)) own) ∙ e)
 
     module _ (b : AnyBytes v) (bytes : Bytes P) where
-      pub read-number : (e : WritePasses v a P m) (w : Verdict) → Is v a w → mapOutcome mirror v a (read (length P)) m .0 ≡ verdictNumber w
-      unfolding writeOutcome
-      read-number e w is = number-by v b a P bytes m e w is
-
       -- by the verdict that it found
       new-by : (e : WritePasses v a P m) (h : State) (w : Verdict) → Is v a w → isFinished (verdictNumber w) ≡ true → heldAfter vol v h a P m completed (a .number) ≡ kept P none
       unfolding isFinished
       new-by e h (whole Q) is f =
-          ap (λ (k : ℕ). holdLent vol v h (callEvents a completed (read (length P) ∷ following P k) (v, m)) (a .number)) (read-number e (whole Q) is)
+          ap (λ (k : ℕ). holdLent vol v h (callEvents a completed (read (length P) ∷ following P k) (v, m)) (a .number)) (read-by v b a P bytes m e (whole Q) is)
           ∙ ends-new a P (read (length P) ∷ first P ∷ second P ∷ []) (v, m) h
           (subst AllFinished (sym (whole-runs v b a P bytes m e Q is)) (f, (f, (f, (f, tt)))))
       new-by e h (doubtful d Q) is f =
-          ap (λ (k : ℕ). holdLent vol v h (callEvents a completed (read (length P) ∷ following P k) (v, m)) (a .number)) (read-number e (doubtful d Q) is)
+          ap (λ (k : ℕ). holdLent vol v h (callEvents a completed (read (length P) ∷ following P k) (v, m)) (a .number)) (read-by v b a P bytes m e (doubtful d Q) is)
           ∙ ap (λ (cs : List Call). holdLent vol v h (callEvents a completed (read (length P) ∷ cs) (v, m)) (a .number)) (after-doubt P d)
           ∙ ends-new a P (read (length P) ∷ mend ∷ first P ∷ second P ∷ []) (v, m) h
           (subst AllFinished (sym (doubtful-runs v b a P bytes m e d Q is)) (f, (f, (refl, (refl, (refl, tt))))))
@@ -265,7 +261,7 @@ module _ (vol : Volume) where
       finished-new h f =
           let e : WritePasses v a P m = passes (finished-accepted v a (read (length P)) m f) in
           let w = one-verdict v b a P bytes m e in
-          new-by e h (w .0) (w .1) (ap isFinished (sym (read-number e (w .0) (w .1))) ∙ f)
+          new-by e h (w .0) (w .1) (ap isFinished (sym (read-by v b a P bytes m e (w .0) (w .1))) ∙ f)
 
       -- ---- a write that is accepted
 

@@ -183,7 +183,7 @@ module _ (v : Triple) (b : AnyBytes v) (a : Args) (P : List ℕ) (bytes : Bytes 
   -- ---- refused before the verdict
 
   -- none of these refusals marks the map, of a read or of a mend
-  rules-keep : (c : Call) (k : ℕ) → firstOf (writeRules v a P m) ≡ some k → marks c k ≡ Keeps
+  pub rules-keep : (c : Call) (k : ℕ) → firstOf (writeRules v a P m) ≡ some k → marks c k ≡ Keeps
   rules-keep c k e = go (mapRefusal v a m) refl
     where
       length-keeps : (x : Bool) → firstOf (rule 3 x ∷ []) ≡ some k → marks c k ≡ Keeps
@@ -197,7 +197,7 @@ module _ (v : Triple) (b : AnyBytes v) (a : Args) (P : List ℕ) (bytes : Bytes 
           let is : j ≡ k = cc in
           subst (λ (x : ℕ). marks c x ≡ Keeps) is (before-keeps v a m c j f)
 
-  read-refused : (k : ℕ) → firstOf (writeRules v a P m) ≡ some k → mapOutcome mirror v a (read (length P)) m ≡ (k, (v, m))
+  pub read-refused : (k : ℕ) → firstOf (writeRules v a P m) ≡ some k → mapOutcome mirror v a (read (length P)) m ≡ (k, (v, m))
   read-refused k e =
       let own : List Rule = judgeRules (judge (sealing mirror a) (a .number) (sector v a)) in
       let order : firstOf (callOrder v a (read (length P)) m) ≡ some k =
@@ -293,13 +293,16 @@ module _ (v : Triple) (b : AnyBytes v) (a : Args) (P : List ℕ) (bytes : Bytes 
     unfolding isFinished lostOrClashing
     write-clashing is = wrote v a P m (reads (means a v m checked .read-clashing P read-passes .1 is)) refl refl
 
-    -- the number of the answer, by the verdict
+    -- the number of the answer, by the verdict: of the read, and so of the write
+    pub read-by : (w : Verdict) → Is v a w → mapOutcome mirror v a (read (length P)) m .0 ≡ verdictNumber w
+    read-by (whole Q) is = ap (λ (r : ℕ × (Triple × List ℕ)). r .0) (reads (means a v m checked .read-whole P read-passes Q .1 is))
+    read-by (doubtful d Q) is = ap (λ (r : ℕ × (Triple × List ℕ)). r .0) (reads (means a v m checked .read-doubtful P read-passes d Q .1 is))
+    read-by lost is = ap (λ (r : ℕ × (Triple × List ℕ)). r .0) (reads (means a v m checked .read-lost P read-passes .1 is))
+    read-by clashing is = ap (λ (r : ℕ × (Triple × List ℕ)). r .0) (reads (means a v m checked .read-clashing P read-passes .1 is))
+
     pub number-by : (w : Verdict) → Is v a w → writeOutcome mirror v a P m .0 ≡ verdictNumber w
     unfolding writeOutcome
-    number-by (whole Q) is = ap (λ (r : ℕ × (Triple × List ℕ)). r .0) (reads (means a v m checked .read-whole P read-passes Q .1 is))
-    number-by (doubtful d Q) is = ap (λ (r : ℕ × (Triple × List ℕ)). r .0) (reads (means a v m checked .read-doubtful P read-passes d Q .1 is))
-    number-by lost is = ap (λ (r : ℕ × (Triple × List ℕ)). r .0) (write-lost is)
-    number-by clashing is = ap (λ (r : ℕ × (Triple × List ℕ)). r .0) (write-clashing is)
+    number-by w is = read-by w is
 
     pub one-verdict : (w : Verdict) × Is v a w × ((u : Verdict) → Is v a u → u ≡ w)
     one-verdict = means a v m checked .one-verdict (read (length P)) read-passes

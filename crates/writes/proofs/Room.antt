@@ -48,10 +48,10 @@ module _ (v : Triple) (a : Args) where
   outcome-by o = refl
 
   module _ (m : List ℕ) where
-    with-map : (o : ℕ) → mapOutcome mirror v a (read o) m ≡
+    read-with : (o : ℕ) → mapOutcome mirror v a (read o) m ≡
         (let r = by-refusal (refusal mirror v a (read o)) in settle (mapRefusal v a m) (r .0, (r .1, marked (marks (read o) (r .0)) (a .number) m)) (v, m))
     unfolding mapOutcome
-    with-map o = ap (λ (r : ℕ × Triple). settle (mapRefusal v a m) (r .0, (r .1, marked (marks (read o) (r .0)) (a .number) m)) (v, m)) (outcome-by o)
+    read-with o = ap (λ (r : ℕ × Triple). settle (mapRefusal v a m) (r .0, (r .1, marked (marks (read o) (r .0)) (a .number) m)) (v, m)) (outcome-by o)
 
     pub least-read : (o : ℕ) → mapOutcome mirror v a (read (min o 4097)) m ≡ mapOutcome mirror v a (read o) m
     least-read o = go (mapRefusal v a m) refl
@@ -60,6 +60,6 @@ module _ (v : Triple) (a : Args) where
         go (some k) e = marked-refused mirror v a (read (min o 4097)) m e ∙ sym (marked-refused mirror v a (read o) m e)
         go none e =
             let small = size-le (a .volume .size) (common v (a .volume) (none-left (mapRules (a .volume .count) _ ++ nine a) (volumeOnly v (a .volume)) e) .size) in
-            with-map (min o 4097)
+            read-with (min o 4097)
             ∙ ap (λ (x : Option ℕ). let r = by-refusal x in settle (mapRefusal v a m) (r .0, (r .1, marked (marks (read o) (r .0)) (a .number) m)) (v, m)) (least-refusal o small)
-            ∙ sym (with-map o)
+            ∙ sym (read-with o)

@@ -37,8 +37,8 @@ use Rattle.writes.specs.History.{WriteCut, inCall, afterCall, WriteFate,
 use Rattle.writes.specs.Witness.{Doubt, toSector, CutIn, Met, EveryCut}
 use Rattle.writes.proofs.Accepted.{finished-accepted}
 use Rattle.writes.proofs.Following.{after-doubt}
-use Rattle.writes.proofs.Meaning.{number-by, whole-runs, doubtful-runs}
-use Rattle.writes.proofs.History.{after-all, after-all-of, AllFinished, doubt-finished, calls-lead, power-in, read-number, finished-new, laptop-allowed-both, laptop-run-both, laptop-hold-both, laptop-history}
+use Rattle.writes.proofs.Meaning.{read-by, number-by, whole-runs, doubtful-runs}
+use Rattle.writes.proofs.History.{after-all, after-all-of, AllFinished, doubt-finished, calls-lead, power-in, finished-new, laptop-allowed-both, laptop-run-both, laptop-hold-both, laptop-history}
 
 -- ---- lists one behind the other
 
@@ -186,7 +186,7 @@ module _ (vol : Volume) (accepted : AcceptedVolume vol) (i : ℕ) (lt : i < vol 
     unfolding isFinished
     whole-cut Q is h held xs c ys e =
         write-cut-in vol i P k v h Q none held m xs c ys
-        (ap (λ (j : ℕ). read (length P) ∷ following P j) (read-number vol v here P m bytes-of (plain .bytes) (passes v I) (whole Q) is) ∙ e)
+        (ap (λ (j : ℕ). read (length P) ∷ following P j) (read-by v bytes-of here P (plain .bytes) m (passes v I) (whole Q) is) ∙ e)
         (subst (λ (cs : List Call). AllFinished (callsAnswer here cs (v, m))) e
         (subst AllFinished (sym (whole-runs v bytes-of here P (plain .bytes) m (passes v I) Q is)) (refl, (refl, (refl, (refl, tt))))))
 
@@ -195,7 +195,7 @@ module _ (vol : Volume) (accepted : AcceptedVolume vol) (i : ℕ) (lt : i < vol 
     unfolding isFinished
     mend-cut d Q is h held =
         write-cut-in vol i P k v h Q (some d) held m (read (length P) ∷ []) mend (stages P)
-        (ap (λ (j : ℕ). read (length P) ∷ following P j) (read-number vol v here P m bytes-of (plain .bytes) (passes v I) (doubtful d Q) is)
+        (ap (λ (j : ℕ). read (length P) ∷ following P j) (read-by v bytes-of here P (plain .bytes) m (passes v I) (doubtful d Q) is)
         ∙ ap (λ (cs : List Call). read (length P) ∷ cs) (after-doubt P d))
         (subst AllFinished (sym (doubtful-runs v bytes-of here P (plain .bytes) m (passes v I) d Q is)) (doubt-finished d, (doubt-finished d, (refl, (refl, (refl, tt))))))
 
