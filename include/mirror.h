@@ -31,6 +31,7 @@
  * holds is the answer. A refused call has changed none of the bytes that it was lent, with one exception: a mirror_read, mirror_mend or
  * mirror_write that refuses 6 or 7 has set its sector's bit in the map, and changed nothing else. `out` is written when the answer is
  * certain, and all of it. Always look at the answer: after a refusal `out` is what it was before. mirror_text gives a text for each answer.
+ * Judge, read, mend and write are done with MIRROR_DOUBTFUL_... too: of these `!= MIRROR_DONE` is no test of failure, mirror_is_refusal is.
  *
  * MAP. Every call on a volume is lent a map of its suspect sectors, to know what to look at without judging all of them. It has one bit a
  * sector: sector i is bit i mod 64, lowest first, of word i/64. A set bit means suspect; mirror_is_suspect tests one, and
@@ -101,11 +102,15 @@
  *   - A tag goes out in one write that the medium does whole: after a cut it is the old one or the new one, never a mixture. A local or
  *     remote sector whose write had begun may then hold anything.
  *   - The images are private memory. A call may store a tag byte by byte: in a shared mapping of the medium (mmap with MAP_SHARED) a kill
- *     or a power cut between two bytes leaves a mixture, and a second stage cut so loses the sector.
- *   - A write is the three stages, with a flush after each. mirror_write, which makes them in one call, leaves no time to flush in between:
- *     it is for where power cannot go within a call. What it asks for stands there.
+ *     or a power cut between two bytes leaves a mixture, and a second stage cut so loses the sector. The images may be the medium itself
+ *     only where a tag lands whole all the same: see case 2 at mirror_write.
+ *   - A write is the three stages, with a flush after each. mirror_write, which makes them in one call, leaves no time to flush in between.
+ *     It is for three cases only, which stand there: power cannot go within the call; the images are themselves a medium that keeps the
+ *     order in which the calls store, a tag landing whole; or all three images are saved between calls, in one step that is done whole or
+ *     not at all.
  *
- * FROM 0.6.0 AND 0.5.0. mirror_write is new; no other call and no stored byte changes.
+ * FROM 0.6.0 AND 0.5.0. mirror_write is new, and mirror_is_refusal; no other call and no stored byte changes, and no program has to be
+ * changed. Compile it again with this header: mirror_version() is compared with MIRROR_VERSION, and the library answers the new number.
  *
  * FROM 0.4.0, and from 0.3.0, which has the same calls. Every call on a volume takes the map: `map, map_len` behind `remote_len`. No stored
  * byte changes. A program has to do this:
@@ -180,8 +185,9 @@
 #define MIRROR_REFUSED_LOST 6u          /* no plaintext fits two places: check the key and the volume's number on other sectors; if they
                                            are right, blank, and write from a backup */
 #define MIRROR_REFUSED_CLASHING 7u      /* more than one plaintext fits two places: if a write was under way, go on with its second and
-                                           third stage (if the second refuses 10, see "After a cut in a write" below); otherwise open
-                                           each side, combine both, choose, blank, and write the choice */
+                                           third stage (if the second refuses 10, see "After a cut in separate stages" or "After a cut
+                                           in mirror_write" below); otherwise open each side, combine both, choose, blank, and write
+                                           the choice */
 #define MIRROR_REFUSED_VOLUME_SHAPE 8u  /* n is not 1 to 65,536, or an image has another length than s and n ask for: check s, n and the
                                            images */
 #define MIRROR_REFUSED_SECTOR_NUMBER 9u /* the sector's number is not below n: sectors count from 0 */
@@ -311,17 +317,18 @@ MIRROR_ANSWER mirror_blank(const uint8_t *key, size_t key_len, uint64_t volume, 
 
 /*
  * A write is three calls with the same plaintext, in this order, each finished (see POWER CUTS) before the next begins. Each writes only
- * the sector's part of the one image that it takes without const, and the sector's bit in the map. For all of it in one call see
- * mirror_write below.
+ * the sector's part of the one image that it takes without const, and the sector's bit in the map. mirror_write below makes them in one
+ * call, but is not for images that are written out to a disk part by part: it has a condition of its own.
  *
  * Between the stages and after a cut in one, a read gives the old plaintext until the tag is written and the new one from then on, or it
  * refuses 7: that only if another plaintext fits two places, as the old or the new one does where both have the same tag. Read and mend
  * then refuse 7 until the write goes on. The next stage with the same plaintext is accepted all the same, and the third ends the clash.
  *
- * After a cut in a write: read the sector. If it is doubtful, mend it, and see by the plaintext whether to write again. If it clashes, make
- * the second and the third stage with the same plaintext. If the second refuses 10, the first was cut, and the old plaintext still fits tag
- * and remote sector: mirror_rebuild from the remote side (under the volume's number; the address is the sector's number) gives the local
- * sector that belongs there.
+ * After a cut in separate stages: read the sector. If it is doubtful, mend it, and see by the plaintext whether to write again. If it
+ * clashes, make the second and the third stage with the same plaintext. If the second refuses 10, the first was cut, and the old plaintext
+ * still fits tag and remote sector: mirror_rebuild from the remote side (under the volume's number; the address is the sector's number)
+ * gives the local sector that belongs there. This last step is only for where it is known that a first stage had begun. Where a mend before
+ * it may have been cut instead, go by "After a cut in mirror_write" below.
  *
  * First stage: writes the local sector. 10 if the sector is not whole: go by the answer that a read of it gives.
  * Second stage: writes the tag. 10 if the plaintext does not fit the local sector.
@@ -373,20 +380,37 @@ MIRROR_ANSWER mirror_mend(const uint8_t *key, size_t key_len, uint64_t volume, s
 /*
  * Writes one sector in one call: reads it, mends it if it is doubtful, and makes the three stages with the plaintext. The answer is what it
  * found before, and MIRROR_DOUBTFUL_... is no failure: the plaintext is written then too. Afterwards the sector is whole, sealed as the
- * plaintext in all three places. It refuses as a read does, and no stage in it refuses, so 10 never comes.
+ * plaintext in all three places. It refuses as a read does, and no stage in it refuses, so 10 never comes. It has failed
+ *   if (mirror_is_refusal(answer)) ... (and not if answer != MIRROR_DONE, which is so of a write over a doubtful sector too)
  *
  * When it may be used. A power cut in it is a cut in one of the calls that it makes, or between two. A sector that held a plaintext and did
  * not clash then holds the old one or the new one, on the same premise as with separate calls: what each of them wrote has landed before
- * the next writes, and a tag lands whole. But here the caller cannot flush in between. So it is for these two cases only:
- *   - Power cannot go within the call. A battery lasts until the call has answered and what it stored is safe; or the images are in memory
- *     and are saved between calls, all three in one step that is done whole or not at all, so that a cut leaves one save or the next.
- *   - The images are themselves the medium, as in persistent memory, and there what each of these calls stores lands before what the next
- *     one stores, and the 16 bytes of a tag at once. The library does nothing for that: its stores are ordinary ones, without flush or
- *     fence, the compiler may reorder them within mirror_write, and a tag may be stored byte by byte. Unless all this is known to be right
- *     on a platform, take the first case alone. A shared mapping of files (mmap) is no such medium: its pages reach the disk in any order.
- * Whoever brings the images to a disk by writing out and flushing needs the three stages, with a flush after each. After mirror_write all
- * three places differ from the disk at once: a cut while they are written out can leave a sector of which nothing fits two places, and no
- * order of writing them out is right for every answer. After a cut, where one was possible, go by "After a cut in a write" above.
+ * the next writes, and a tag lands whole. But here the caller cannot flush in between. So it is for these three cases only:
+ *   1. Power cannot go within the call: a battery lasts until it has answered and what it stored is safe.
+ *   2. The images are themselves the medium, as in persistent memory, and there what each of these calls stores lands before what the next
+ *      one stores, and the 16 bytes of a tag at once. The library does nothing for that: its stores are ordinary ones, without flush or
+ *      fence, the compiler may reorder them within mirror_write, and a tag may be stored byte by byte. Unless all this is known to be right
+ *      on a platform, take the other cases alone. A shared mapping of files on a disk (mmap) is no such medium: its pages reach the disk in
+ *      any order.
+ *   3. The images are in memory and are saved between calls, all three in one step that is done whole or not at all. Power may go within
+ *      the call then: a cut leaves the volume of the last save. Of a sector that was written several times since, that may be neither the
+ *      old nor the new plaintext of the last write, but what it held at the save.
+ * Whoever brings the images to a disk by writing out parts and flushing needs the three stages, with a flush after each. After mirror_write
+ * all three places differ from the disk at once: a cut while they are written out can leave a sector of which nothing fits two places, and
+ * no order of writing them out is right for every answer.
+ *
+ * After a cut in mirror_write, which only case 2 has: start the map anew, and read the sector. Whole or doubtful: the plaintext is the old
+ * one or the new one; mend. 7: the one that is kept, old or new, fits the tag and one of the sides, but nobody knows which of the calls was
+ * cut, and so which side. Rebuild neither side yet.
+ *   - If the new plaintext is at hand and wanted, make the second stage with it. If that is accepted, make the third: the new one is kept,
+ *     whole.
+ *   - If the second refuses 10, the new one had not reached the local sector, and the old one is kept. If the first stage was cut, the
+ *     remote side and the tag have it; if it was the mend, perhaps the local side and the tag. Rebuilding from the wrong side destroys it.
+ *     To have the new one all the same, blank the sector and write again. The blank destroys the old one: keep the new one until both are
+ *     done.
+ *   - To have what is kept: mirror_open of each side with the tag gives it. If one side refuses 5, it is what the other gives. If both give
+ *     a plaintext, only somebody who knows the data can tell which it is; if nobody does, take a backup. Then mirror_rebuild from the side
+ *     that gave it: with the other side so made the sector is whole.
  *   1, 2, 8, 13, 9 as mirror_blank
  *   3 plain_len is not s
  *   6 lost, as is a sector that was never blanked: the sector's bit in the map is set, and nothing else has changed
@@ -421,7 +445,8 @@ MIRROR_ANSWER mirror_survey(const uint8_t *key, size_t key_len, uint64_t volume,
 
 /*
  * A text for an answer; for a refusal it says what is wrong, and behind a colon what to do. The size in it is s, and the count is n. Any
- * number has a text, also one that no call answers; it is never NULL, and nothing is to be freed.
+ * number has a text, also one that no call answers; it is never NULL, and nothing is to be freed. "doubtful at ..." says what the call has
+ * found: after a mend and a write that is what was there before, and the sector is whole now.
  */
 static inline const char *mirror_text(uint32_t answer)
 {
@@ -448,7 +473,8 @@ static inline const char *mirror_text(uint32_t answer)
     case MIRROR_REFUSED_CLASHING:
         return "clashing, more than one plaintext fits two places: "
                "if a write was under way, go on with its second and third stage "
-               "(if the second refuses, rebuild the local sector from the remote side); "
+               "(if the second refuses and it is known that a separate first stage was cut, "
+               "rebuild the local sector from the remote side); "
                "otherwise open each side and combine both, choose, blank the sector and write the choice";
     case MIRROR_REFUSED_VOLUME_SHAPE:
         return "the count is not 1 to 65,536, or an image has another length than size and count ask for: "
@@ -473,6 +499,12 @@ static inline const char *mirror_text(uint32_t answer)
     }
 }
 
+/* Whether an answer is a refusal: 0 if it is MIRROR_DONE, MIRROR_WHOLE or MIRROR_DOUBTFUL_..., else 1, also for what is no answer. */
+static inline int mirror_is_refusal(uint32_t answer)
+{
+    return answer != MIRROR_DONE && (answer < MIRROR_DOUBTFUL_LOCAL || answer > MIRROR_DOUBTFUL_REMOTE);
+}
+
 /* Whether a sector is suspect: 1 if its bit in the map is set, else 0. It checks nothing: number is below the n of the map. */
 static inline int mirror_is_suspect(const uint64_t *map, size_t number)
 {
@@ -492,6 +524,8 @@ static inline int mirror_is_suspect(const uint64_t *map, size_t number)
  *   both:   uint32_t answer = mirror_volume_start_map(&v); (once, when the volume is opened)
  *           if (answer == MIRROR_DONE) answer = mirror_volume_blank(&v, 2);
  *           if (answer != MIRROR_DONE) fprintf(stderr, "sector 2: %s\n", mirror_text(answer));
+ *           answer = mirror_volume_mend(&v, 2); (or a read or a write, which may answer MIRROR_DOUBTFUL_... too)
+ *           if (mirror_is_refusal(answer)) fprintf(stderr, "sector 2: %s\n", mirror_text(answer));
  *
  * Initialise it with named fields, as here, since a later release may have more of them, in other places. A field that is left out of such
  * an initialiser is 0: a length, s or n of 0 is refused, and a `volume` of 0 is the number 0, which volumes of before release 0.3.0 have.
@@ -573,7 +607,8 @@ static inline MIRROR_ANSWER mirror_volume_mend(const struct mirror_volume *v, si
                        v->remote_len, v->map, v->map_len);
 }
 
-/* mirror_write: all three stages, and a mend before if one is due. Only where power cannot go within the call: see mirror_write. */
+/* mirror_write: all three stages, and a mend before if one is due. Only where power cannot go within the call, or the images are a medium
+ * that keeps the order of the stores, or all three are saved between calls in one step: see the three cases at mirror_write. */
 static inline MIRROR_ANSWER mirror_volume_write(const struct mirror_volume *v, size_t number, const uint8_t *plain, size_t plain_len)
 {
     return mirror_write(v->key, v->key_len, v->volume, v->s, v->n, number, plain, plain_len, v->local, v->local_len, v->tags, v->tags_len,

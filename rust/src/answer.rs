@@ -41,6 +41,9 @@ impl Side {
 }
 
 /// What judging finds where it gives a plaintext.
+///
+/// From [`mend`](crate::Volume::mend) and [`write`](crate::Volume::write) it is
+/// what they found before, and so is its text: the sector is whole now.
 #[derive(Clone, Copy, Debug, PartialEq, Eq, Hash)]
 pub enum Verdict {
     /// One plaintext fits all three places.
@@ -98,7 +101,9 @@ pub enum Refusal {
     NoneFits = 5,
     /// 6: no plaintext fits two places.
     Lost = 6,
-    /// 7: more than one plaintext fits two places.
+    /// 7: more than one plaintext fits two places. After a cut in a write see
+    /// [power cuts](crate#power-cuts) and, if it was one call,
+    /// [there](crate#a-write-in-one-call).
     Clashing = 7,
     /// 8: the count is not 1 to 65,536, or an image has another length than
     /// size and count ask for.
@@ -181,7 +186,8 @@ impl Refusal {
             }
             Refusal::Clashing => {
                 "if a write was under way, go on with its second and third stage \
-                 (if the second refuses, rebuild the local sector from the remote side); \
+                 (if the second refuses and it is known that a separate first stage was cut, \
+                 rebuild the local sector from the remote side); \
                  otherwise open each side and combine both, choose, blank the sector and write the choice"
             }
             Refusal::VolumeShape => "check the size, the count and the three images",

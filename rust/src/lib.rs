@@ -51,10 +51,10 @@
 //! # A volume
 //!
 //! A write is three stages with one plaintext, and what each wrote is on the
-//! medium before the next begins ([Power cuts](#power-cuts)); where power cannot go
-//! within a call, it may be [one call](#a-write-in-one-call). Images and map of a
-//! [`Volume`] are lent or owned. Here `write_out` stands for what writes a part to
-//! the medium and flushes it.
+//! medium before the next begins ([Power cuts](#power-cuts)); in three cases, where
+//! nobody has to flush in between, it may be [one call](#a-write-in-one-call).
+//! Images and map of a [`Volume`] are lent or owned. Here `write_out` stands for
+//! what writes a part to the medium and flushes it.
 //!
 //! ```
 //! use mirror::{map_words, Place, Refusal, Verdict, Volume, KEY_BYTES, TAG_BYTES};
@@ -175,7 +175,12 @@
 //!   write had begun may then hold anything.
 //! - **The images are private memory.** A call may store a tag byte by byte: in a
 //!   shared mapping of the medium a kill or a power cut between two bytes leaves a
-//!   mixture, and a second stage cut so loses the sector.
+//!   mixture, and a second stage cut so loses the sector. The images may be the
+//!   medium itself only where a tag lands whole all the same: see case 2 of [a write
+//!   in one call](#a-write-in-one-call).
+//! - **A write is the three stages, with a flush after each.** [`Volume::write`]
+//!   leaves no time to flush in between, and is for [three
+//!   cases](#a-write-in-one-call) only.
 //!
 //! Between the stages of a write and after a cut in one, a read gives the old
 //! plaintext until the tag is written and the new one from then on, or it refuses
@@ -184,13 +189,15 @@
 //! mend then refuse until the write goes on. The next stage with the same
 //! plaintext is accepted all the same, and the third ends the clash.
 //!
-//! After a cut, read the sector. If it is doubtful, mend it, and see by the
-//! plaintext whether to write again. If it clashes, make the second and the third
-//! stage with the same plaintext. If the second is refused
+//! After a cut in separate stages, read the sector. If it is doubtful, mend it, and
+//! see by the plaintext whether to write again. If it clashes, make the second and
+//! the third stage with the same plaintext. If the second is refused
 //! ([`StageOrder`](Refusal::StageOrder)), the first was cut, and the old plaintext
 //! still fits tag and remote sector: [`rebuild`] from the remote side (under the
 //! volume's number; the address is the sector's number) gives the local sector
-//! that belongs there.
+//! that belongs there. This last step is only for where it is known that a first
+//! stage had begun. Where a mend before it may have been cut instead, go by what is
+//! said of [a write in one call](#a-write-in-one-call).
 //!
 //! # A write in one call
 //!
@@ -199,23 +206,47 @@
 //! sector that held a plaintext and did not clash then holds the old one or the new
 //! one, on the same premise as above. What each of these calls wrote has landed
 //! before the next writes, and a tag lands whole; but the caller cannot flush in
-//! between. So it is for these two cases only:
+//! between. So it is for these three cases only:
 //!
-//! - **Power cannot go within the call.** A battery lasts until the call has
-//!   answered and what it stored is safe; or the images are in memory and are saved
-//!   between calls, all three in one step that is done whole or not at all.
-//! - **The images are themselves the medium**, as in persistent memory, and there
-//!   what each of these calls stores lands before what the next one stores, and a
-//!   tag at once. The library does nothing for that: its stores are ordinary ones,
-//!   without flush or fence, the compiler may reorder them within the call, and a tag
-//!   may be stored byte by byte. Unless all this is known to be right on a platform,
-//!   take the first case alone. A shared mapping of files is no such medium: its
-//!   pages reach the disk in any order.
+//! 1. **Power cannot go within the call**: a battery lasts until it has answered and
+//!    what it stored is safe.
+//! 2. **The images are themselves the medium**, as in persistent memory, and there
+//!    what each of these calls stores lands before what the next one stores, and a
+//!    tag at once. The library does nothing for that: its stores are ordinary ones,
+//!    without flush or fence, the compiler may reorder them within the call, and a
+//!    tag may be stored byte by byte. Unless all this is known to be right on a
+//!    platform, take the other cases alone. A shared mapping of files on a disk is
+//!    no such medium: its pages reach the disk in any order.
+//! 3. **The images are in memory and are saved between calls**, all three in one
+//!    step that is done whole or not at all. Power may go within the call then: a
+//!    cut leaves the volume of the last save. Of a sector that was written several
+//!    times since, that may be neither the old nor the new plaintext of the last
+//!    write, but what it held at the save.
 //!
-//! Whoever brings the images to a disk by writing out and flushing needs the three
-//! stages, with a flush after each. After a write in one call all three places
+//! Whoever brings the images to a disk by writing out parts and flushing needs the
+//! three stages, with a flush after each. After a write in one call all three places
 //! differ from the disk at once: a cut while they are written out can lose the
 //! sector, and no order of writing them out is right for every verdict.
+//!
+//! **After a cut in it**, which only case 2 has, start the map anew, and read the
+//! sector. Whole or doubtful: the plaintext is the old one or the new one; mend.
+//! [`Clashing`](Refusal::Clashing): the one that is kept, old or new, fits the tag
+//! and one of the sides, but nobody knows which of the calls was cut, and so which
+//! side. Rebuild neither side yet.
+//!
+//! - If the new plaintext is at hand and wanted, make the second stage with it. If
+//!   that is accepted, make the third: the new one is kept, whole.
+//! - If the second is refused ([`StageOrder`](Refusal::StageOrder)), the new one had
+//!   not reached the local sector, and the old one is kept. If the first stage was
+//!   cut, the remote side and the tag have it; if it was the mend, perhaps the local
+//!   side and the tag. Rebuilding from the wrong side destroys it. To have the new
+//!   one all the same, blank the sector and write again. The blank destroys the old
+//!   one: keep the new one until both are done.
+//! - To have what is kept: [`open`] of each side with the tag gives it. If one side
+//!   is refused ([`NoneFits`](Refusal::NoneFits)), it is what the other gives. If
+//!   both give a plaintext, only somebody who knows the data can tell which it is;
+//!   if nobody does, take a backup. Then [`rebuild`] from the side that gave it:
+//!   with the other side so made the sector is whole.
 //!
 //! # Secrets
 //!

@@ -28,7 +28,7 @@ use crate::{ffi, map, Refusal, Verdict, TAG_BYTES};
 /// caller writes out what a call changed. A call is finished only once that is
 /// on the medium; a power cut before is a cut in that call. Flush before the next
 /// call on the volume, and see [power cuts](crate#power-cuts) for what else a
-/// medium has to keep.
+/// medium has to keep, and for images that are the medium themselves.
 ///
 /// ```
 /// use mirror::{map_words, Refusal, Volume, KEY_BYTES, TAG_BYTES};
@@ -543,11 +543,14 @@ impl<I: AsRef<[u8]> + AsMut<[u8]>, M: AsMut<[u64]>> Volume<'_, I, M> {
     /// plaintext is written then too. Afterwards the sector is whole, sealed as the
     /// plaintext in all three places, and its bit of the map is clear.
     ///
-    /// **It is for where power cannot go within the call**: a battery lasts until
-    /// what it stored is safe, or the images are in memory and are saved between
-    /// calls, all three in one step that is done whole or not at all. Where images
+    /// **It is for three cases only**: power cannot go within the call, since a
+    /// battery lasts until what it stored is safe; or the images are themselves a
+    /// medium that keeps the order in which its calls store, a tag landing whole; or
+    /// the images are in memory and are saved between calls, all three in one step
+    /// that is done whole or not at all, and a cut leaves the last save. Where images
     /// are written out to a medium part by part, use the three stages with a flush
-    /// after each. See [a write in one call](crate#a-write-in-one-call).
+    /// after each. [A write in one call](crate#a-write-in-one-call) says more, also of
+    /// what to do after a cut in it.
     ///
     /// ```
     /// use mirror::{Place, Refusal, Verdict, Volume, KEY_BYTES};
@@ -699,7 +702,8 @@ pub struct ByKind<'l> {
     /// lost. Otherwise blank them, and write them from a backup.
     pub lost: &'l [u32],
     /// The clashing ones: more than one plaintext fits two places. If a write was
-    /// under way, go on with it; otherwise see [`Refusal::Clashing`].
+    /// under way, go on with its second and third stage; otherwise, or if the second
+    /// is refused, see [`Refusal::Clashing`].
     pub clashing: &'l [u32],
     /// The doubtful ones: [`mend`](Volume::mend) them.
     pub doubtful: &'l [u32],

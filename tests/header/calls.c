@@ -283,7 +283,8 @@ static int is_answer(uint32_t number)
            (number >= MIRROR_DOUBTFUL_LOCAL && number <= MIRROR_DOUBTFUL_REMOTE);
 }
 
-/* Answers have texts of their own (texts.c prints them), and all other numbers one text: all below 1000, and some beyond. */
+/* Answers have texts of their own (texts.c prints them), and all other numbers one text: all below 1000, and some beyond. All but 0 and the
+ * three doubtful ones are refusals for mirror_is_refusal. */
 static void texts(void)
 {
     static const uint32_t BEYOND[] = {1000, 0x8000, 0x10000, 0x10001, 0x7fffffff, 0x80000000, 0x80000001, 0xffffff81, 0xffffffff};
@@ -292,6 +293,8 @@ static void texts(void)
     size_t i;
     for (number = 0; number < 1000; number++) {
         const int has_none = strcmp(mirror_text(number), unknown) == 0;
+        const int refused = number != 0 && number != 0x81 && number != 0x82 && number != 0x83;
+        check(mirror_is_refusal(number) == refused, __LINE__, "mirror_is_refusal", "takes another number for a refusal");
         check(has_none == !is_answer(number), __LINE__, "mirror_text", "takes another number for an answer");
         for (other = 0; other < number && !has_none; other++) {
             check(strcmp(mirror_text(number), mirror_text(other)) != 0, __LINE__, "mirror_text", "gives two answers one text");
@@ -299,8 +302,9 @@ static void texts(void)
     }
     for (i = 0; i < sizeof BEYOND / sizeof BEYOND[0]; i++) {
         check(strcmp(mirror_text(BEYOND[i]), unknown) == 0, __LINE__, "mirror_text", "takes a number beyond for an answer");
+        check(mirror_is_refusal(BEYOND[i]) == 1, __LINE__, "mirror_is_refusal", "takes a number beyond for no refusal");
     }
-    puts("calls: mirror_text");
+    puts("calls: mirror_text, mirror_is_refusal");
 }
 
 /* ---- one sector */

@@ -293,7 +293,7 @@ static unsigned char met[CALLS][256];
 /* What the call has left, against what was there before: the map by the table, and after a refusal all else as it was. */
 static void left(int which, uint32_t answer, size_t n)
 {
-    const int refused = answer >= MIRROR_REFUSED_KEY_LENGTH && answer <= MIRROR_REFUSED_MAP_LENGTH;
+    const int refused = mirror_is_refusal(answer);
     size_t i;
     check(*words_in(&called, MAP) == marked(which, answer, n, *words_in(&before, MAP)), __LINE__, NAMES[which],
           "the call leaves another map than the table says");
