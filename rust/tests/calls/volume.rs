@@ -295,6 +295,180 @@ fn a_first_stage_cut_into_a_clash_is_undone_by_rebuilding() {
     assert_eq!(output[..], old);
 }
 
+/// One place of sector 1.
+fn part(images: &mut Images, place: Place) -> &mut [u8] {
+    match place {
+        Place::Local => &mut images.local[SIZE..2 * SIZE],
+        Place::Tag => &mut images.tags[TAG_BYTES..2 * TAG_BYTES],
+        Place::Remote => &mut images.remote[SIZE..2 * SIZE],
+    }
+}
+
+/// What a read of sector 1 says and gives.
+fn read_of(mut images: Images) -> Result<(Verdict, Vec<u8>), Refusal> {
+    let mut output = vec![0; SIZE];
+    let verdict = images.volume(&key()).read(1, &mut output)?;
+    Ok((verdict, output))
+}
+
+/// The plaintext that fits one side of sector 1 and its tag.
+fn opened(mut images: Images, side: Side) -> Result<Vec<u8>, Refusal> {
+    let (key, mut output) = (key(), vec![0; SIZE]);
+    let volume = images.volume(&key);
+    let sector = match side {
+        Side::Local => volume.local_part(1),
+        Side::Remote => volume.remote_part(1),
+    };
+    let (sector, tag) = (sector.expect("sector 1"), volume.tag_part(1));
+    let tag = tag.expect("sector 1");
+    mirror::open(&key, VOLUME, 1, side, sector, tag, &mut output)?;
+    Ok(output)
+}
+
+/// Sector 1 with one side rebuilt from the other one.
+fn rebuilt_from(side: Side, images: &Images) -> Images {
+    let (mut images, mut output) = (images.clone(), vec![0; SIZE]);
+    let (from, to) = match side {
+        Side::Local => (Place::Local, Place::Remote),
+        Side::Remote => (Place::Remote, Place::Local),
+    };
+    let tag = part(&mut images, Place::Tag).to_vec();
+    let sector = part(&mut images, from);
+    let rebuilt = mirror::rebuild(&key(), VOLUME, 1, side, sector, &tag, &mut output);
+    assert_eq!(rebuilt, Ok(()));
+    part(&mut images, to).copy_from_slice(&output);
+    images
+}
+
+/// A clash is ended by a blank and a write in one call.
+fn insist_on_blank_and_write(mut images: Images, plaintext: &[u8]) {
+    let key = key();
+    assert_eq!(images.volume(&key).blank(1), Ok(()));
+    let written = images.volume(&key).write(1, plaintext);
+    assert_eq!(written, Ok(Verdict::Whole));
+    assert_eq!(read_of(images), Ok((Verdict::Whole, plaintext.to_vec())));
+}
+
+/// Why after a cut in a write in one call nothing is rebuilt from the remote side,
+/// as it is after a first stage. The remote sector is damaged in blocks 1 and 2, and
+/// the write's mend is cut when it has written block 1. What is left of block 2 is
+/// that of another plaintext of the same tag.
+#[test]
+fn a_write_in_one_call_whose_mend_is_cut_into_a_clash() {
+    let (key, new) = (key(), bytes(9));
+    let (mut images, old, _) = before_a_write_of_equal_tag();
+    let mended = part(&mut images, Place::Remote).to_vec();
+    let remote = part(&mut images, Place::Remote);
+    remote[5] ^= 1;
+    remote[20] ^= 1;
+    let found = Verdict::Doubtful(Place::Remote);
+    assert_eq!(read_of(images.clone()), Ok((found, old.clone())));
+    assert_eq!(images.clone().volume(&key).write(1, &new), Ok(found));
+    part(&mut images, Place::Remote)[..16].copy_from_slice(&mended[..16]);
+
+    insist_on_clash(&mut images.volume(&key), &new);
+    let early = Err(Refusal::StageOrder);
+    assert_eq!(images.volume(&key).second_stage(1, &new), early);
+
+    let other = opened(images.clone(), Side::Remote).expect("another plaintext");
+    assert!(other != old && other != new);
+    let destroyed = rebuilt_from(Side::Remote, &images);
+    assert_eq!(read_of(destroyed), Ok((Verdict::Whole, other)));
+
+    assert_eq!(opened(images.clone(), Side::Local), Ok(old.clone()));
+    let kept = rebuilt_from(Side::Local, &images);
+    assert_eq!(read_of(kept), Ok((Verdict::Whole, old)));
+    insist_on_blank_and_write(images, &new);
+}
+
+/// All that a power cut in a write in one call may leave of sector 1, where a side
+/// that was being written holds that of one of these.
+fn cuts(mut images: Images, new: &[u8], anything: &[Triple]) -> Vec<Images> {
+    type Call = fn(&mut Lent, &[u8]) -> bool;
+    let mut calls: Vec<(Place, Call)> = vec![
+        (Place::Local, |v, new| v.first_stage(1, new).is_ok()),
+        (Place::Tag, |v, new| v.second_stage(1, new).is_ok()),
+        (Place::Remote, |v, new| v.third_stage(1, new).is_ok()),
+    ];
+    if let Ok((Verdict::Doubtful(place), _)) = read_of(images.clone()) {
+        calls.insert(0, (place, |v, _| v.mend(1).is_ok()));
+    }
+    let mut left = vec![images.clone()];
+    for (place, call) in calls {
+        for Triple { local, remote, .. } in anything {
+            let mut cut = images.clone();
+            match place {
+                Place::Local => part(&mut cut, place).copy_from_slice(local),
+                Place::Remote => part(&mut cut, place).copy_from_slice(remote),
+                Place::Tag => {}
+            }
+            left.push(cut);
+        }
+        assert!(call(&mut images.volume(&key()), new));
+        left.push(images.clone());
+    }
+    left
+}
+
+/// What is advised after a cut in a write in one call leads to the old plaintext or
+/// the new one. Gives the side that has the old one, where the sector clashes and
+/// the new one has not reached it.
+fn go_by_the_advice(cut: Images, old: &[u8], new: &[u8]) -> Option<Side> {
+    let (key, sides) = (key(), [Side::Local, Side::Remote]);
+    let mut on = cut.clone();
+    let read = read_of(cut.clone());
+    if let Ok((verdict, plaintext)) = read {
+        assert!(plaintext == old || plaintext == new);
+        assert_eq!(on.volume(&key).mend(1), Ok(verdict));
+        assert_eq!(read_of(on), Ok((Verdict::Whole, plaintext)));
+        return None;
+    }
+    assert_eq!(read, Err(Refusal::Clashing));
+    let gives = |plaintext: &[u8]| {
+        let opened = |side: &Side| opened(cut.clone(), *side);
+        sides
+            .into_iter()
+            .find(|s| opened(s).is_ok_and(|p| p == plaintext))
+    };
+    assert!(gives(old).is_some() || gives(new).is_some());
+    if on.volume(&key).second_stage(1, new).is_ok() {
+        assert_eq!(on.volume(&key).third_stage(1, new), Ok(()));
+        assert_eq!(read_of(on), Ok((Verdict::Whole, new.to_vec())));
+        return None;
+    }
+    let side = gives(old).expect("the old plaintext fits the tag and a side");
+    let kept = rebuilt_from(side, &cut);
+    assert_eq!(read_of(kept), Ok((Verdict::Whole, old.to_vec())));
+    insist_on_blank_and_write(cut, new);
+    Some(side)
+}
+
+#[test]
+fn after_a_cut_in_a_write_in_one_call() {
+    let (before, old, of_equal_tag) = before_a_write_of_equal_tag();
+    let mut other = of_equal_tag.clone();
+    other[25] ^= 1;
+    let places = [Place::Local, Place::Tag, Place::Remote].map(Some);
+    let mut sides = Vec::new();
+    for new in [of_equal_tag, bytes(9), old.clone()] {
+        let mut anything = [&old, &new, &other].map(|p| sealed(1, p)).to_vec();
+        anything.push(sealed(0, &new));
+        for place in [None].into_iter().chain(places) {
+            let mut images = before.clone();
+            if let Some(place) = place {
+                damage(&mut images, place);
+            }
+            let cuts = cuts(images, &new, &anything);
+            sides.extend(
+                cuts.into_iter()
+                    .filter_map(|cut| go_by_the_advice(cut, &old, &new)),
+            );
+        }
+    }
+    // Neither side has it always.
+    assert!(sides.contains(&Side::Local) && sides.contains(&Side::Remote));
+}
+
 /// Under another number than its own a volume is lost, and a call that needs what
 /// is there changes no image.
 #[test]
