@@ -12,7 +12,7 @@ use Rattle.bits.specs.Bits.{Words, mark}
 use Rattle.mode.specs.Sealing.{Triple, Key, sealed}
 use Rattle.mode.specs.Scheme.{Place, local, tag, remote, on, wide, isSize, dcm, scheme}
 use Rattle.answers.specs.Rules.{firstOf, Args, args, lengthRules, mapWords}
-use Rattle.answers.proofs.Rules.{first-none, none-left, none-right}
+use Rattle.answers.proofs.Rules.{first-none, none-right}
 use Rattle.answers.proofs.Passing.{length-due, parts-pass}
 use Rattle.answers.proofs.Shapes.{shape-facts}
 use Rattle.verdict.specs.Verdict.{Verdict, whole, doubtful, lost, clashing, fits, fitsTwo, candidate, grade, judge}
@@ -28,7 +28,7 @@ use Rattle.suspects.proofs.Marking.{volumeOnly, nine, right-words, map-passed}
 use Rattle.suspects.proofs.Calls.{map-calls}
 use Rattle.writes.specs.Write.{writeOutcome}
 use Rattle.writes.specs.Meaning.{WritePasses, written, WriteMeans}
-use Rattle.writes.proofs.Meaning.{writes-mean}
+use Rattle.writes.proofs.Meaning.{first-passed, writes-mean}
 use Rattle.mirror.specs.Sectors.{AsSectors}
 
 module _ (v : Triple) (k : Key) (volume s n i : ℕ) where
@@ -92,21 +92,21 @@ module _ (v : Triple) (k : Key) (volume s n i : ℕ) where
   -- ---- a write in one call
 
   module _ (b : AnyBytes v) (P : List ℕ) (bytes : Bytes P) (m : List ℕ) (w : Words m) (e : WritePasses v a P m) where
-    first-passed : mapRefusal v a m ≡ none
-    first-passed = none-left (lengthRules (length P) s) (firstRules v a m) e
+    passed-first : mapRefusal v a m ≡ none
+    passed-first = first-passed v b a P bytes m e
 
     read-passed : firstOf (early v a (read (length P))) ≡ none
     unfolding early
     read-passed =
         first-none (lengths a (read (length P))) (volumeOnly v (a .volume) ++ nine a)
-        (sym (right-words v (a .volume) m (nine a) (map-passed v a m first-passed .0)) ∙ first-passed)
+        (sym (right-words v (a .volume) m (nine a) (map-passed v a m passed-first .0)) ∙ passed-first)
         ∙ none-right (lengthRules (length P) s) (firstRules v a m) e
 
     means : WriteMeans v a P m
     means = writes-mean v b a P bytes m w
 
     same-number : writeOutcome mirror v a P m .0 ≡ judgeCall k volume i t P .0
-    same-number = means .as-read P refl ∙ ap (λ (r : ℕ × List ℕ). r .0) (map-reads m (map-passed v a m first-passed .0) P read-passed)
+    same-number = means .as-read P refl ∙ ap (λ (r : ℕ × List ℕ). r .0) (map-reads m (map-passed v a m passed-first .0) P read-passed)
 
     -- by the verdict that it found
     writes-by : (u : Verdict) → Is v a u → isFinished (writeOutcome mirror v a P m .0) ≡ true → writeOutcome mirror v a P m .1 ≡ written v a P m

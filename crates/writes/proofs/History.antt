@@ -36,7 +36,7 @@ use Rattle.writes.specs.History.{WriteCut, beforeCall, inCall, afterCall
 use Rattle.writes.proofs.Accepted.{finished-accepted, read-only}
 use Rattle.writes.proofs.Following.{after-doubt}
 use Rattle.writes.proofs.Meaning.{read-by, number-by, one-verdict, whole-runs, doubtful-runs}
-use Rattle.writes.proofs.Machine.{Writing, AllWriting, following-writing, writing-lent, keeps-old-or-new, keeps-others}
+use Rattle.writes.proofs.Machine.{Writing, AllWriting, calls-writing, writing-lent, keeps-old-or-new, keeps-others}
 
 -- the numbers of calls that finished
 abbrev pub AllFinished : List ℕ → Type 0
@@ -201,20 +201,17 @@ module _ (vol : Volume) where
     refused-events : (f : WriteFate) (k : ℕ) → firstOf (callOrder v a (read (length P)) m) ≡ some k → events v (write a P m f) ≡ callEvents a f (read (length P) ∷ []) (v, m)
     refused-events f k e = ap (λ (cs : List Call). callEvents a f (read (length P) ∷ cs) (v, m)) (read-only v a P m k e)
 
-    calls-writing : AllWriting P (writeCalls v a P m)
-    calls-writing = (tt, following-writing P (mapOutcome mirror v a (read (length P)) m .0))
-
     write-allowed : (f : WriteFate) → LaptopAllowed vol v (write a P m f) → AllLentAllowed vol v (events v (write a P m f))
     write-allowed f z = go (firstOf (callOrder v a (read (length P)) m)) refl
       where
         go : (o : Option ℕ) → firstOf (callOrder v a (read (length P)) m) ≡ o → AllLentAllowed vol v (events v (write a P m f))
-        go none e = events-allowed a P (z .1) (z .0 e) (writeCalls v a P m) calls-writing f (z .2) (v, m)
+        go none e = events-allowed a P (z .1) (z .0 e) (writeCalls v a P m) (calls-writing v a P m) f (z .2) (v, m)
         go (some k) e = subst (AllLentAllowed vol v) (sym (refused-events f k e)) (lone-allowed a (read (length P)) v m k e tt f (z .2))
 
     write-keeps : Images (vol .size) (vol .count) v → (h : State) (f : WriteFate) → LaptopAllowed vol v (write a P m f)
         → PromisedLent vol (laptopLeaves vol v (write a P m f)) (heldAfter vol v h a P m f) → WriteKeeps vol v h a P m f
     write-keeps I h f z after = record {
-      old-or-new = λ Q d e. events-keep a Q P (writeCalls v a P m) calls-writing f (v, m) h (d, inl e);
+      old-or-new = λ Q d e. events-keep a Q P (writeCalls v a P m) (calls-writing v a P m) f (v, m) h (d, inl e);
       refused = λ k e. (
         sym (write-leads f) ∙ ap (runLent vol v) (refused-events f k e) ∙ lone-leaves a (read (length P)) v m k e f,
         ap (holdLent vol v h) (refused-events f k e) ∙ lone-held a (read (length P)) v m k e f h,

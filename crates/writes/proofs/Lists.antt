@@ -37,7 +37,7 @@ use Rattle.writes.specs.Lists.{WriteStep, other, oneCall, writeStepLeave
 use Rattle.writes.proofs.Following.{after-doubt, after-refusal}
 use Rattle.writes.proofs.Accepted.{keeps-unfinished, read-only}
 use Rattle.writes.proofs.Meaning.{rules-keep, read-refused, read-by, one-verdict, whole-runs, doubtful-runs}
-use Rattle.writes.proofs.Machine.{AllWriting, following-writing, writing-lent}
+use Rattle.writes.proofs.Machine.{AllWriting, calls-writing, writing-lent}
 
 -- ---- lists one behind the other
 
@@ -69,11 +69,8 @@ module _ (vol : Volume) where
   step-takes d (other e) t = (t, tt)
   step-takes d (oneCall a P) t = go (firstOf (callOrder (d .images) a (read (length P)) (d .map))) refl
     where
-      calls-writing : AllWriting P (writeCalls (d .images) a P (d .map))
-      calls-writing = (tt, following-writing P (mapOutcome mirror (d .images) a (read (length P)) (d .map) .0))
-
       go : (o : Option ℕ) → firstOf (callOrder (d .images) a (read (length P)) (d .map)) ≡ o → AllTake vol d (stepsOf d (oneCall a P))
-      go none e = calls-take a P (t .1) (t .0 e) (writeCalls (d .images) a P (d .map)) calls-writing d
+      go none e = calls-take a P (t .1) (t .0 e) (writeCalls (d .images) a P (d .map)) (calls-writing (d .images) a P (d .map)) d
       go (some k) e =
           subst (λ (cs : List Call). AllTake vol d (callSteps a (read (length P) ∷ cs))) (sym (read-only (d .images) a P (d .map) k e))
           ((λ z. absurd (none-some (sym z ∙ e)), tt), tt)
@@ -206,7 +203,7 @@ bytes-step d b (other (startsMap n)) h = b
 bytes-step d b (other looksOnly) h = b
 bytes-step d b (other (writesImages v)) h = h
 bytes-step d b (oneCall a P) h =
-    bytes-calls a P h (writeCalls (d .images) a P (d .map)) (tt, following-writing P (mapOutcome mirror (d .images) a (read (length P)) (d .map) .0)) (d .images, d .map) b
+    bytes-calls a P h (writeCalls (d .images) a P (d .map)) (calls-writing (d .images) a P (d .map)) (d .images, d .map) b
 
 -- ---- over lists
 

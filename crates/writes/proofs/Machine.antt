@@ -6,16 +6,18 @@ use mathlib.Core.List.{List, [], _∷_}
 use mathlib.Core.Option.{Option, none, some}
 use Prim.Native.Nat.{ℕ}
 use lib.Dec.{eqb}
+use lib.ListN.{length}
 use Rattle.block.specs.Bytes.{Bytes}
+use Rattle.mode.specs.Sealing.{Triple}
 use Rattle.mode.specs.Scheme.{Place, local, remote}
 use Rattle.answers.specs.Rules.{Args}
-use Rattle.history.specs.Volume.{Call, blank, first, second, third, mend, read}
+use Rattle.history.specs.Volume.{Call, blank, first, second, third, mend, read, mirror}
 use Rattle.history.specs.Machine.{Told, toldFinished, toldCut, called, Held, kept, step, State, machine}
 use Rattle.history.specs.Power.{LentBytes}
 use Rattle.history.proofs.Events.{put-same, put-other}
-use Rattle.suspects.specs.Marks.{isFinished}
+use Rattle.suspects.specs.Marks.{isFinished, mapOutcome}
 use Rattle.writes.specs.Write.{stages, following}
-use Rattle.writes.specs.History.{OldOrNew}
+use Rattle.writes.specs.History.{writeCalls, OldOrNew}
 
 -- the calls of a write of P
 abbrev pub Writing : List ℕ → Call → Type 0
@@ -30,13 +32,16 @@ abbrev pub AllWriting : List ℕ → List Call → Type 0
 AllWriting P [] = Unit {0}
 AllWriting P (c ∷ cs) = Writing P c × AllWriting P cs
 
-pub following-writing : (P : List ℕ) (k : ℕ) → AllWriting P (following P k)
+following-writing : (P : List ℕ) (k : ℕ) → AllWriting P (following P k)
 following-writing P k = go (eqb k 0) (isFinished k)
   where
     go : (x y : Bool) → AllWriting P (cond x (stages P) (cond y (mend ∷ stages P) []))
     go true y = (refl, (refl, (refl, tt)))
     go false true = (tt, (refl, (refl, (refl, tt))))
     go false false = tt
+
+pub calls-writing : (v : Triple) (a : Args) (P m : List ℕ) → AllWriting P (writeCalls v a P m)
+calls-writing v a P m = (tt, following-writing P (mapOutcome mirror v a (read (length P)) m .0))
 
 pub writing-lent : (P : List ℕ) → Bytes P → (c : Call) → Writing P c → LentBytes c
 writing-lent P b blank w = tt

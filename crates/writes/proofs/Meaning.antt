@@ -211,7 +211,7 @@ module _ (v : Triple) (b : AnyBytes v) (a : Args) (P : List ℕ) (bytes : Bytes 
   -- ---- past those refusals
 
   module _ (e : WritePasses v a P m) where
-    first-passed : mapRefusal v a m ≡ none
+    pub first-passed : mapRefusal v a m ≡ none
     first-passed = none-left (lengthRules (length P) (a .volume .size)) (firstRules v a m) e
 
     long : firstOf (lengths a (first P)) ≡ none

@@ -15,7 +15,7 @@ use Rattle.answers.specs.Rules.{Args, Volume, isShape, shape, lengthRules, mapW
 use Rattle.answers.proofs.Rules.{first-none}
 use Rattle.answers.proofs.Passing.{Common, sector-pass}
 use Rattle.history.specs.Volume.{Call, blank, first, second, third, mend, read, store, outcome, mirror}
-use Rattle.history.specs.Machine.{toldFinished, called, kept, State, start, put, afterDamage, machine}
+use Rattle.history.specs.Machine.{toldFinished, called, kept, State, start, afterDamage, machine}
 use Rattle.history.specs.Power.{Cut, cut, damage, Images, CutOf, isRefused}
 use Rattle.history.specs.History.{at, own}
 use Rattle.history.specs.HistoryFrom.{AnyBytes}
@@ -33,7 +33,7 @@ use Rattle.suspects.proofs.Marking.{nine, right-words}
 use Rattle.suspects.proofs.Calls.{map-calls}
 use Rattle.writes.specs.Write.{stages, following, callsLeave}
 use Rattle.writes.specs.Meaning.{callsAnswer, WritePasses}
-use Rattle.writes.specs.History.{WriteCut, inCall, afterCall, WriteFate, completed, cutAt, LaptopEvent, single, write, writeCalls, made, broken, callEvents, events, WriteCutOf, WriteFateOf, laptopLeaves, LaptopAllowed, AllLaptopAllowed, runLaptop, holdLaptop}
+use Rattle.writes.specs.History.{inCall, afterCall, WriteFate, completed, cutAt, LaptopEvent, single, write, writeCalls, made, callEvents, WriteFateOf, laptopLeaves, LaptopAllowed, AllLaptopAllowed, runLaptop, holdLaptop}
 use Rattle.writes.specs.Witness.{Doubt, toSector, CutIn, Met, EveryCut}
 use Rattle.writes.proofs.Accepted.{finished-accepted}
 use Rattle.writes.proofs.Following.{after-doubt}
@@ -75,13 +75,12 @@ module _ (vol : Volume) (i : ℕ) (P : List ℕ) (k : Cut) where
   not-refused [] c ys d f = finished-accepted (d .0) a c (d .1) (f .0)
   not-refused (x ∷ xs) c ys d f = not-refused xs c ys (mapOutcome mirror (d .0) a x (d .1) .1) (f .1)
 
-  write-cut-in : (v : Triple) (h : State) (Q : List ℕ) (d : Option Place) → h i ≡ kept Q d → (m : List ℕ) (xs : List Call) (c : Call) (ys : List Call) → writeCalls v a P m ≡ xs ++ (c ∷ ys)
+  write-cut-in : (v : Triple) (h : State) (d : Option Place) → h i ≡ kept (replicate (vol .size) 0) d → (m : List ℕ) (xs : List Call) (c : Call) (ys : List Call) → writeCalls v a P m ≡ xs ++ (c ∷ ys)
       → AllFinished (callsAnswer a (xs ++ (c ∷ ys)) (v, m)) → CutIn vol v h (write a P m (cutAt (after-all xs (inCall k)))) i P k c
-  write-cut-in v h Q d held m xs c ys e f = record {
+  write-cut-in v h d held m xs c ys e f = record {
     map = m;
     power = after-all xs (inCall k);
     is-write = refl;
-    plain = Q;
     doubt = d;
     is-kept = held;
     earlier = callEvents a completed xs (v, m);
@@ -181,23 +180,23 @@ module _ (vol : Volume) (accepted : AcceptedVolume vol) (i : ℕ) (lt : i < vol 
     bytes-of = any-bytes (vol .size) (vol .count) v I
 
     -- on a whole sector
-    whole-cut : (Q : List ℕ) → Is v here (whole Q) → (h : State) → h i ≡ kept Q none → (xs : List Call) (c : Call) (ys : List Call) → read (length P) ∷ stages P ≡ xs ++ (c ∷ ys)
+    whole-cut : Is v here (whole zeros) → (h : State) → h i ≡ kept zeros none → (xs : List Call) (c : Call) (ys : List Call) → read (length P) ∷ stages P ≡ xs ++ (c ∷ ys)
         → CutIn vol v h (write here P m (cutAt (after-all xs (inCall k)))) i P k c
     unfolding isFinished
-    whole-cut Q is h held xs c ys e =
-        write-cut-in vol i P k v h Q none held m xs c ys
-        (ap (λ (j : ℕ). read (length P) ∷ following P j) (read-by v bytes-of here P (plain .bytes) m (passes v I) (whole Q) is) ∙ e)
+    whole-cut is h held xs c ys e =
+        write-cut-in vol i P k v h none held m xs c ys
+        (ap (λ (j : ℕ). read (length P) ∷ following P j) (read-by v bytes-of here P (plain .bytes) m (passes v I) (whole zeros) is) ∙ e)
         (subst (λ (cs : List Call). AllFinished (callsAnswer here cs (v, m))) e
-        (subst AllFinished (sym (whole-runs v bytes-of here P (plain .bytes) m (passes v I) Q is)) (refl, (refl, (refl, (refl, tt))))))
+        (subst AllFinished (sym (whole-runs v bytes-of here P (plain .bytes) m (passes v I) zeros is)) (refl, (refl, (refl, (refl, tt))))))
 
     -- in the mend of a doubtful one
-    mend-cut : (d : Place) (Q : List ℕ) → Is v here (doubtful d Q) → (h : State) → h i ≡ kept Q (some d) → CutIn vol v h (write here P m (cutAt (afterCall (inCall k)))) i P k mend
+    mend-cut : (d : Place) → Is v here (doubtful d zeros) → (h : State) → h i ≡ kept zeros (some d) → CutIn vol v h (write here P m (cutAt (afterCall (inCall k)))) i P k mend
     unfolding isFinished
-    mend-cut d Q is h held =
-        write-cut-in vol i P k v h Q (some d) held m (read (length P) ∷ []) mend (stages P)
-        (ap (λ (j : ℕ). read (length P) ∷ following P j) (read-by v bytes-of here P (plain .bytes) m (passes v I) (doubtful d Q) is)
+    mend-cut d is h held =
+        write-cut-in vol i P k v h (some d) held m (read (length P) ∷ []) mend (stages P)
+        (ap (λ (j : ℕ). read (length P) ∷ following P j) (read-by v bytes-of here P (plain .bytes) m (passes v I) (doubtful d zeros) is)
         ∙ ap (λ (cs : List Call). read (length P) ∷ cs) (after-doubt P d))
-        (subst AllFinished (sym (doubtful-runs v bytes-of here P (plain .bytes) m (passes v I) d Q is)) (doubt-finished d, (doubt-finished d, (refl, (refl, (refl, tt))))))
+        (subst AllFinished (sym (doubtful-runs v bytes-of here P (plain .bytes) m (passes v I) d zeros is)) (doubt-finished d, (doubt-finished d, (refl, (refl, (refl, tt))))))
 
   -- ---- events that meet a cut in the call c
 
@@ -220,7 +219,7 @@ module _ (vol : Volume) (accepted : AcceptedVolume vol) (i : ℕ) (lt : i < vol 
           event = write here P m (cutAt (after-all xs (inCall k)));
           behind = [];
           splits = refl;
-          cut-in = whole-cut (blanked v I) (blank-images v I) zeros (blank-whole v I) (holdLaptop vol v h (single (made here blank m) ∷ [])) (blank-holds v I h) xs c ys e;
+          cut-in = whole-cut (blanked v I) (blank-images v I) (blank-whole v I) (holdLaptop vol v h (single (made here blank m) ∷ [])) (blank-holds v I h) xs c ys e;
         };
       }
 
@@ -256,7 +255,7 @@ module _ (vol : Volume) (accepted : AcceptedVolume vol) (i : ℕ) (lt : i < vol 
             event = write here P m fate;
             behind = [];
             splits = refl;
-            cut-in = mend-cut (runLaptop vol v es) (laptop-history .from-gone vol v I es y .images) d zeros (hurt-doubtful v I) (holdLaptop vol v h es) (hurt-holds v I h);
+            cut-in = mend-cut (runLaptop vol v es) (laptop-history .from-gone vol v I es y .images) d (hurt-doubtful v I) (holdLaptop vol v h es) (hurt-holds v I h);
           };
         }
 

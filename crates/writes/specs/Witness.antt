@@ -1,5 +1,5 @@
 -- The history of a volume with writes is not empty: on every volume that the calls accept, from any images, there is a list in which power
--- goes in each of the calls of a write to a sector that is kept. None of these calls is refused. Proved as `each-cut`. A write mends only a
+-- goes in each of the calls of a write to a sector that is kept with zeros. None of these calls is refused. Proved as `each-cut`. A write mends only a
 -- doubtful sector, so for the mend there has to be damage that leaves a sealed sector doubtful, and not clashing.
 use mathlib.Core.Path.{_≡_}
 use mathlib.Core.List.{List, [], _∷_, _++_}
@@ -30,15 +30,14 @@ module _ (vol : Volume) where
   abbrev pub toSector : ℕ → Args
   toSector i = record { volume = vol; number = i }
 
-  -- The event e, from the images v and where the machine holds h, is a write of P to sector i, which is kept. Power goes in its call c, which
-  -- is not refused, and leaves k there.
+  -- The event e, from the images v and where the machine holds h, is a write of P to sector i, which is kept with zeros. Power goes in its
+  -- call c, which is not refused, and leaves k there.
   pub record CutIn (v : Triple) (h : State) (e : LaptopEvent) (i : ℕ) (P : List ℕ) (k : Cut) (c : Call) : Type 0 where
     pub map : List ℕ
     pub power : WriteCut
     pub is-write : e ≡ write (toSector i) P map (cutAt power)
-    pub plain : List ℕ
     pub doubt : Option Place
-    pub is-kept : h i ≡ kept plain doubt
+    pub is-kept : h i ≡ kept (replicate (vol .size) 0) doubt
     -- the calls before it, and the map that it is lent
     pub earlier : List Lent
     pub last : List ℕ
