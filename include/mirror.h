@@ -399,9 +399,10 @@ MIRROR_ANSWER mirror_mend(const uint8_t *key, size_t key_len, uint64_t volume, s
  * all three places differ from the disk at once: a cut while they are written out can leave a sector of which nothing fits two places, and
  * no order of writing them out is right for every answer.
  *
- * After a cut in mirror_write, which only case 2 has: start the map anew, and read the sector. Whole or doubtful: the plaintext is the old
- * one or the new one; mend. 7: the one that is kept, old or new, fits the tag and one of the sides, but nobody knows which of the calls was
- * cut, and so which side. Rebuild neither side yet.
+ * After a cut in mirror_write. In case 3 load the last save and start the map anew: no sector shows the cut. In case 2, the only one where
+ * it shows in the images, start the map anew, and read the sector. Whole or doubtful: the plaintext is the old one or the new one; mend.
+ * 7: the one that is kept, old or new, fits the tag and one of the sides, but nobody knows which of the calls was cut, and so which side.
+ * Rebuild neither side yet.
  *   - If the new plaintext is at hand and wanted, make the second stage with it. If that is accepted, make the third: the new one is kept,
  *     whole.
  *   - If the second refuses 10, the new one had not reached the local sector, and the old one is kept. If the first stage was cut, the

@@ -228,7 +228,8 @@
 //! differ from the disk at once: a cut while they are written out can lose the
 //! sector, and no order of writing them out is right for every verdict.
 //!
-//! **After a cut in it**, which only case 2 has, start the map anew, and read the
+//! **After a cut in it.** In case 3 load the last save and start the map anew: no sector
+//! shows the cut. In case 2, the only one where it shows, start the map anew, and read the
 //! sector. Whole or doubtful: the plaintext is the old one or the new one; mend.
 //! [`Clashing`](Refusal::Clashing): the one that is kept, old or new, fits the tag
 //! and one of the sides, but nobody knows which of the calls was cut, and so which

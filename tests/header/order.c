@@ -269,7 +269,7 @@ static uint32_t first_stage(void) { return mirror_volume_first_stage(&v, number,
 static uint32_t second_stage(void) { return mirror_volume_second_stage(&v, number, new.plain, v.s); }
 static uint32_t third_stage(void) { return mirror_volume_third_stage(&v, number, new.plain, v.s); }
 
-/* Other writes: all leave the same bytes and give the same answer, but only the first two are right. */
+/* Other writes. Only by_calls and by_copies are right; those that store in a wrong order leave the same bytes and give the same answer. */
 static uint32_t stages_after(uint32_t found) { return (first_stage() | second_stage() | third_stage()) == MIRROR_DONE ? found : ~0u; }
 
 static uint32_t copies_after(uint32_t found, size_t one, size_t two, size_t three)
@@ -283,8 +283,29 @@ static uint32_t copies_after(uint32_t found, size_t one, size_t two, size_t thre
 static uint32_t by_calls(void) { return stages_after(mend()); }
 static uint32_t by_copies(void) { return copies_after(mend(), LOCAL, TAG, REMOTE); }
 static uint32_t blank_first(void) { return stages_after(blank()); }
+static uint32_t blank_for_mend(void)
+{
+    const uint32_t found = read_sector();
+    return blank() == MIRROR_DONE ? stages_after(found) : MIRROR_REFUSED_LOST;
+}
 static uint32_t tag_first(void) { return copies_after(mend(), TAG, LOCAL, REMOTE); }
 static uint32_t without_mend(void) { return copies_after(read_sector(), LOCAL, TAG, REMOTE); }
+
+static uint32_t other_answer(void) { return by_copies() == MIRROR_DOUBTFUL_LOCAL ? MIRROR_WHOLE : MIRROR_REFUSED_LOST; }
+
+static uint32_t other_bytes(void)
+{
+    const uint32_t found = by_copies();
+    parts[REMOTE][0] ^= 1;
+    return found;
+}
+
+static uint32_t refused_stores(void)
+{
+    volatile uint8_t *const own = parts[TAG];
+    *own = *own;
+    return read_sector();
+}
 
 static uint32_t beside(void)
 {
@@ -354,7 +375,7 @@ static void try_refused(size_t s)
     }
 }
 
-/* The other calls on a sector: each of them but blank stores to one place at most. */
+/* The other calls on a sector: each of them but blank, which may store in any order, stores to one place at most, and a read to none. */
 static void try_others(size_t s)
 {
     static const struct row rows[] = {{"blank", blank, AT_LOCAL, NULL, &zeros, MIRROR_DONE},
@@ -364,6 +385,8 @@ static void try_others(size_t s)
                                       {"second stage", second_stage, FIRST_OTHER, "", &new, MIRROR_REFUSED_STAGE_ORDER},
                                       {"third stage", third_stage, SECOND_SAME, "r", &new, MIRROR_DONE},
                                       {"third stage", third_stage, SECOND_OTHER, "", &new, MIRROR_REFUSED_STAGE_ORDER},
+                                      {"read", read_sector, WHOLE, "", &old, MIRROR_WHOLE},
+                                      {"read", read_sector, AT_LOCAL, "", &old, MIRROR_DOUBTFUL_LOCAL},
                                       {"mend", mend, WHOLE, "", &old, MIRROR_WHOLE},
                                       {"mend", mend, AT_LOCAL, "l", &old, MIRROR_DOUBTFUL_LOCAL},
                                       {"mend", mend, AT_TAG, "t", &old, MIRROR_DOUBTFUL_TAG},
@@ -388,6 +411,11 @@ static void try_controls(size_t s)
     } controls[] = {{{"write by copies", by_copies, AT_LOCAL, "ltr", &new, MIRROR_DOUBTFUL_LOCAL}, 0},
                     {{"write by single calls", by_calls, AT_TAG, "tltr", &new, MIRROR_DOUBTFUL_TAG}, 0},
                     {{"write that blanks first", blank_first, WHOLE, "ltr", &new, MIRROR_WHOLE}, ORDER | STAGE | CUT},
+                    {{"write that blanks in place of the mend", blank_for_mend, AT_LOCAL, "ltr", &new, MIRROR_DOUBTFUL_LOCAL}, ORDER | STAGE | CUT},
+                    {{"write that blanks in place of the mend", blank_for_mend, AT_TAG, "tltr", &new, MIRROR_DOUBTFUL_TAG}, ORDER | STAGE | CUT},
+                    {{"write that gives another answer", other_answer, AT_LOCAL, "ltr", &new, MIRROR_DOUBTFUL_LOCAL}, ANSWER},
+                    {{"write that leaves another byte", other_bytes, WHOLE, "ltr", &new, MIRROR_WHOLE}, END},
+                    {{"write that is refused and stores", refused_stores, LOST, "", &new, MIRROR_REFUSED_LOST}, ORDER},
                     {{"write that stores the tag first", tag_first, WHOLE, "ltr", &new, MIRROR_WHOLE}, ORDER | CUT},
                     {{"write without a mend", without_mend, AT_LOCAL, "ltr", &new, MIRROR_DOUBTFUL_LOCAL}, STAGE},
                     {{"write without a mend", without_mend, AT_REMOTE, "rltr", &new, MIRROR_DOUBTFUL_REMOTE}, ORDER | CUT},
@@ -412,8 +440,8 @@ int main(void)
         try_refused(sizes[i]);
         try_others(sizes[i]);
     }
-    printf("check_order: %lu stores in %lu calls, all in their order; %lu power cuts between two of them lose nothing, and none is tried "
-           "at %lu within a tag; wrong writes are found\n",
+    printf("check_order: %lu stores in %lu calls, all in the order that is due; %lu power cuts before, between and behind them lose nothing, "
+           "and none is tried at %lu within a tag; wrong writes are found\n",
            stores, calls, cuts, halves);
     return 0;
 }
