@@ -32,7 +32,7 @@ use Rattle.suspects.proofs.History.{demand-3-with-maps}
 use Rattle.suspects.proofs.Marking.{map-passed}
 use Rattle.writes.specs.Write.{following, callsLeave, writeOutcome}
 use Rattle.writes.specs.Meaning.{callsAnswer, writeRules, WritePasses}
-use Rattle.writes.specs.History.{WriteCut, beforeCall, inCall, afterCall, WriteFate, completed, cutAt, LaptopEvent, single, write, writeCalls, made, broken, callEvents, events, WriteCutOf, WriteFateOf, laptopLeaves, LaptopAllowed, AllLaptopAllowed, runLaptop, holdLaptop, OldOrNew, NotClashing, heldAfter, WriteKeeps, WritePromised, PromisedLaptop, LaptopHistory}
+use Rattle.writes.specs.History.{WriteCut, beforeCall, inCall, afterCall, WriteFate, completed, cutAt, LaptopEvent, single, write, writeCalls, finishedCall, cutCall, callEvents, events, WriteCutOf, WriteFateOf, laptopLeaves, LaptopAllowed, AllLaptopAllowed, runLaptop, holdLaptop, OldOrNew, NotClashing, heldAfter, WriteKeeps, WritePromised, PromisedLaptop, LaptopHistory}
 use Rattle.writes.proofs.Accepted.{finished-accepted, read-only}
 use Rattle.writes.proofs.Following.{after-doubt}
 use Rattle.writes.proofs.Meaning.{read-by, number-by, one-verdict, whole-runs, doubtful-runs}
@@ -83,14 +83,14 @@ module _ (vol : Volume) where
 
     -- power goes after the calls xs have finished: in the next, or before it
     ends-in : (k : Cut) (xs : List Call) (c : Call) (ys : List Call) (d : Triple × List ℕ)
-        → callEvents a (cutAt (after-all xs (inCall k))) (xs ++ (c ∷ ys)) d ≡ callEvents a completed xs d ++ (broken a c k (callsLeave mirror a xs d .1) ∷ [])
+        → callEvents a (cutAt (after-all xs (inCall k))) (xs ++ (c ∷ ys)) d ≡ callEvents a completed xs d ++ (cutCall a c k (callsLeave mirror a xs d .1) ∷ [])
     ends-in k [] c ys d = refl
-    ends-in k (x ∷ xs) c ys d = ap (λ (ls : List Lent). made a x (d .1) ∷ ls) (ends-in k xs c ys (mapOutcome mirror (d .0) a x (d .1) .1))
+    ends-in k (x ∷ xs) c ys d = ap (λ (ls : List Lent). finishedCall a x (d .1) ∷ ls) (ends-in k xs c ys (mapOutcome mirror (d .0) a x (d .1) .1))
 
     ends-between : (xs ys : List Call) (d : Triple × List ℕ) → callEvents a (cutAt (after-all xs beforeCall)) (xs ++ ys) d ≡ callEvents a completed xs d
     ends-between [] [] d = refl
     ends-between [] (y ∷ ys) d = refl
-    ends-between (x ∷ xs) ys d = ap (λ (ls : List Lent). made a x (d .1) ∷ ls) (ends-between xs ys (mapOutcome mirror (d .0) a x (d .1) .1))
+    ends-between (x ∷ xs) ys d = ap (λ (ls : List Lent). finishedCall a x (d .1) ∷ ls) (ends-between xs ys (mapOutcome mirror (d .0) a x (d .1) .1))
 
     -- each is allowed in a list where the write takes the volume's key, number, s and n
     module _ (P : List ℕ) (bytes : Bytes P) (takes : a .volume ≡ vol) where
@@ -170,12 +170,12 @@ module _ (vol : Volume) where
         → (j : ℕ) → (j ≡ a .number → ⊥) → at vol (runLent vol (d .0) (callEvents a f cs d)) j ≡ at vol (d .0) j
     other-bytes [] f d I y j n = refl
     other-bytes (c ∷ cs) completed d I y j n =
-        other-bytes cs completed (mapOutcome mirror (d .0) a c (d .1) .1) (demand-3-with-maps .from-gone vol (d .0) I (made a c (d .1) ∷ []) (y .0, tt) .1) (y .1) j n
+        other-bytes cs completed (mapOutcome mirror (d .0) a c (d .1) .1) (demand-3-with-maps .from-gone vol (d .0) I (finishedCall a c (d .1) ∷ []) (y .0, tt) .1) (y .1) j n
         ∙ demand-3-with-maps .from-gone vol (d .0) I [] tt .0 .others a c finished (d .1) (y .0) j n
     other-bytes (c ∷ cs) (cutAt beforeCall) d I y j n = refl
     other-bytes (c ∷ cs) (cutAt (inCall k)) d I y j n = demand-3-with-maps .from-gone vol (d .0) I [] tt .0 .others a c (cut k) (d .1) (y .0) j n
     other-bytes (c ∷ cs) (cutAt (afterCall k)) d I y j n =
-        other-bytes cs (cutAt k) (mapOutcome mirror (d .0) a c (d .1) .1) (demand-3-with-maps .from-gone vol (d .0) I (made a c (d .1) ∷ []) (y .0, tt) .1) (y .1) j n
+        other-bytes cs (cutAt k) (mapOutcome mirror (d .0) a c (d .1) .1) (demand-3-with-maps .from-gone vol (d .0) I (finishedCall a c (d .1) ∷ []) (y .0, tt) .1) (y .1) j n
         ∙ demand-3-with-maps .from-gone vol (d .0) I [] tt .0 .others a c finished (d .1) (y .0) j n
 
     -- ---- a third stage that ends the calls, all of which finish
@@ -224,7 +224,7 @@ module _ (vol : Volume) where
     }
 
     pub power-in : (k : Cut) (xs : List Call) (c : Call) (ys : List Call) → writeCalls v a P m ≡ xs ++ (c ∷ ys)
-        → events v (write a P m (cutAt (after-all xs (inCall k)))) ≡ callEvents a completed xs (v, m) ++ (broken a c k (callsLeave mirror a xs (v, m) .1) ∷ [])
+        → events v (write a P m (cutAt (after-all xs (inCall k)))) ≡ callEvents a completed xs (v, m) ++ (cutCall a c k (callsLeave mirror a xs (v, m) .1) ∷ [])
     power-in k xs c ys e = ap (λ (cs : List Call). callEvents a (cutAt (after-all xs (inCall k))) cs (v, m)) e ∙ ends-in a k xs c ys (v, m)
 
     power-between : (xs ys : List Call) → writeCalls v a P m ≡ xs ++ ys → events v (write a P m (cutAt (after-all xs beforeCall))) ≡ callEvents a completed xs (v, m)

@@ -33,7 +33,7 @@ use Rattle.suspects.proofs.Marking.{nine, right-words}
 use Rattle.suspects.proofs.Calls.{map-calls}
 use Rattle.writes.specs.Write.{stages, following, callsLeave}
 use Rattle.writes.specs.Meaning.{callsAnswer, WritePasses}
-use Rattle.writes.specs.History.{inCall, afterCall, WriteFate, completed, cutAt, LaptopEvent, single, write, writeCalls, made, callEvents, WriteFateOf, laptopLeaves, LaptopAllowed, AllLaptopAllowed, runLaptop, holdLaptop}
+use Rattle.writes.specs.History.{inCall, afterCall, WriteFate, completed, cutAt, LaptopEvent, single, write, writeCalls, finishedCall, callEvents, WriteFateOf, laptopLeaves, LaptopAllowed, AllLaptopAllowed, runLaptop, holdLaptop}
 use Rattle.writes.specs.Witness.{Doubt, toSector, CutIn, Met, EveryCut}
 use Rattle.writes.proofs.Accepted.{finished-accepted}
 use Rattle.writes.proofs.Following.{after-doubt}
@@ -133,7 +133,7 @@ module _ (vol : Volume) (accepted : AcceptedVolume vol) (i : ℕ) (lt : i < vol 
     -- ---- blank
 
     abbrev blanked : Triple
-    blanked = laptopLeaves vol v (single (made here blank m))
+    blanked = laptopLeaves vol v (single (finishedCall here blank m))
 
     blanks : outcome mirror v here blank ≡ (0, sealedAll v here zeros)
     blanks = calls-mean v (any-bytes (vol .size) (vol .count) v I) here .blank-writes (passes-early v here blank (record { common = checked; number = lt; lengths = refl }))
@@ -160,13 +160,13 @@ module _ (vol : Volume) (accepted : AcceptedVolume vol) (i : ℕ) (lt : i < vol 
         ap (λ (r : ℕ × (Triple × List ℕ)). r .0) (map-calls .as-without v here blank m (length-replicate (mapWords (vol .count)) 0))
         ∙ ap (λ (r : ℕ × Triple). r .0) blanks
 
-    blank-holds : (h : State) → holdLaptop vol v h (single (made here blank m) ∷ []) i ≡ kept zeros none
+    blank-holds : (h : State) → holdLaptop vol v h (single (finishedCall here blank m) ∷ []) i ≡ kept zeros none
     unfolding isFinished
     blank-holds h =
         ap (λ (o : Option ℕ). machine h (called here blank (isRefused o) toldFinished) i) (finished-accepted v here blank m (ap isFinished blank-number))
         ∙ put-same i (kept zeros none) h
 
-    blank-allowed : LaptopAllowed vol v (single (made here blank m))
+    blank-allowed : LaptopAllowed vol v (single (finishedCall here blank m))
     blank-allowed = (λ z. refl, tt, tt)
 
   -- ---- a write of P
@@ -208,18 +208,18 @@ module _ (vol : Volume) (accepted : AcceptedVolume vol) (i : ℕ) (lt : i < vol 
 
   meets-whole : (v : Triple) → Images (vol .size) (vol .count) v → (xs : List Call) (c : Call) (ys : List Call) → read (length P) ∷ stages P ≡ xs ++ (c ∷ ys) → Meets v c
   meets-whole v I xs c ys e =
-      let es : List LaptopEvent = single (made here blank m) ∷ write here P m (cutAt (after-all xs (inCall k))) ∷ [] in
+      let es : List LaptopEvent = single (finishedCall here blank m) ∷ write here P m (cutAt (after-all xs (inCall k))) ∷ [] in
       let y : AllLaptopAllowed vol v es = (blank-allowed v I, (write-takes (blanked v I) (cutAt (after-all xs (inCall k))) (after-all-of (vol .size) xs (inCall k) cuts), tt)) in
       record {
         list = es;
         allowed = y;
         images = laptop-history .from-gone vol v I es y .images;
         met = λ h. record {
-          before = single (made here blank m) ∷ [];
+          before = single (finishedCall here blank m) ∷ [];
           event = write here P m (cutAt (after-all xs (inCall k)));
           behind = [];
           splits = refl;
-          cut-in = whole-cut (blanked v I) (blank-images v I) (blank-whole v I) (holdLaptop vol v h (single (made here blank m) ∷ [])) (blank-holds v I h) xs c ys e;
+          cut-in = whole-cut (blanked v I) (blank-images v I) (blank-whole v I) (holdLaptop vol v h (single (finishedCall here blank m) ∷ [])) (blank-holds v I h) xs c ys e;
         };
       }
 
@@ -234,14 +234,14 @@ module _ (vol : Volume) (accepted : AcceptedVolume vol) (i : ℕ) (lt : i < vol 
         (sym (sector-write (vol .size) (vol .count) i lt d x (doubt .0) (blanked v I) (blank-images v I) ∙ ap (store d x) (blank-sector v I))) (doubt .1)
 
     -- and held so
-    hurt-holds : (v : Triple) → Images (vol .size) (vol .count) v → (h : State) → holdLaptop vol v h (single (made here blank m) ∷ single hurt ∷ []) i ≡ kept zeros (some d)
+    hurt-holds : (v : Triple) → Images (vol .size) (vol .count) v → (h : State) → holdLaptop vol v h (single (finishedCall here blank m) ∷ single hurt ∷ []) i ≡ kept zeros (some d)
     hurt-holds v I h =
-        let g : State = holdLaptop vol v h (single (made here blank m) ∷ []) in
+        let g : State = holdLaptop vol v h (single (finishedCall here blank m) ∷ []) in
         put-same i (afterDamage d (g i)) g ∙ ap (afterDamage d) (blank-holds v I h)
 
     meets-mend : (v : Triple) → Images (vol .size) (vol .count) v → Meets v mend
     meets-mend v I =
-        let es : List LaptopEvent = single (made here blank m) ∷ single hurt ∷ [] in
+        let es : List LaptopEvent = single (finishedCall here blank m) ∷ single hurt ∷ [] in
         let fate : WriteFate = cutAt (afterCall (inCall k)) in
         let all : List LaptopEvent = es ++ (write here P m fate ∷ []) in
         let y : AllLaptopAllowed vol v es = (blank-allowed v I, ((lt, doubt .0), tt)) in
@@ -262,7 +262,7 @@ module _ (vol : Volume) (accepted : AcceptedVolume vol) (i : ℕ) (lt : i < vol 
   -- ---- a write that finishes, on a sector that was blanked
 
   abbrev last-two : List LaptopEvent
-  last-two = single (made here blank m) ∷ write here P m completed ∷ []
+  last-two = single (finishedCall here blank m) ∷ write here P m completed ∷ []
 
   last-allowed : (v : Triple) → Images (vol .size) (vol .count) v → AllLaptopAllowed vol v last-two
   last-allowed v I = (blank-allowed v I, (write-takes (blanked v I) completed tt, tt))
@@ -272,7 +272,7 @@ module _ (vol : Volume) (accepted : AcceptedVolume vol) (i : ℕ) (lt : i < vol 
   last-holds v I h =
       let u : Triple = blanked v I in
       let b : AnyBytes u = any-bytes (vol .size) (vol .count) u (blank-images v I) in
-      finished-new vol u here P m b (plain .bytes) (holdLent vol v h (made here blank m ∷ []))
+      finished-new vol u here P m b (plain .bytes) (holdLent vol v h (finishedCall here blank m ∷ []))
       (ap isFinished (number-by u b here P (plain .bytes) m (passes u (blank-images v I)) (whole zeros) (blank-whole v I)))
 
   -- ---- all of them

@@ -49,19 +49,19 @@ abbrev pub writeCalls : Triple → Args → List ℕ → List ℕ → List Call
 writeCalls v a P m = read (length P) ∷ following P (mapOutcome mirror v a (read (length P)) m .0)
 
 -- a call as an event
-abbrev pub made : Args → Call → List ℕ → Lent
-made a c m = record { event = call a c finished; map = m }
+abbrev pub finishedCall : Args → Call → List ℕ → Lent
+finishedCall a c m = record { event = call a c finished; map = m }
 
-abbrev pub broken : Args → Call → Cut → List ℕ → Lent
-broken a c k m = record { event = call a c (cut k); map = m }
+abbrev pub cutCall : Args → Call → Cut → List ℕ → Lent
+cutCall a c k m = record { event = call a c (cut k); map = m }
 
 -- the events of calls on one sector, each of which gets the images and the map as the one before left them
 abbrev pub callEvents : Args → WriteFate → List Call → Triple × List ℕ → List Lent
 callEvents a f [] d = []
-callEvents a completed (c ∷ cs) d = made a c (d .1) ∷ callEvents a completed cs (mapOutcome mirror (d .0) a c (d .1) .1)
+callEvents a completed (c ∷ cs) d = finishedCall a c (d .1) ∷ callEvents a completed cs (mapOutcome mirror (d .0) a c (d .1) .1)
 callEvents a (cutAt beforeCall) (c ∷ cs) d = []
-callEvents a (cutAt (inCall k)) (c ∷ cs) d = broken a c k (d .1) ∷ []
-callEvents a (cutAt (afterCall k)) (c ∷ cs) d = made a c (d .1) ∷ callEvents a (cutAt k) cs (mapOutcome mirror (d .0) a c (d .1) .1)
+callEvents a (cutAt (inCall k)) (c ∷ cs) d = cutCall a c k (d .1) ∷ []
+callEvents a (cutAt (afterCall k)) (c ∷ cs) d = finishedCall a c (d .1) ∷ callEvents a (cutAt k) cs (mapOutcome mirror (d .0) a c (d .1) .1)
 
 -- what the machine is fed of an event: a write is the events of its calls
 abbrev pub events : Triple → LaptopEvent → List Lent
@@ -136,7 +136,7 @@ module _ (vol : Volume) where
       -- power goes in any call of the write, and leaves any k there, after the calls before it have finished,
       pub power-in : (k : Cut) (xs : List Call) (c : Call) (ys : List Call) → writeCalls v a P m ≡ xs ++ (c ∷ ys)
           → (f : WriteCut) × (CutOf (vol .size) (cut k) → WriteCutOf (vol .size) f)
-          × (events v (write a P m (cutAt f)) ≡ callEvents a completed xs (v, m) ++ (broken a c k (callsLeave mirror a xs (v, m) .1) ∷ []))
+          × (events v (write a P m (cutAt f)) ≡ callEvents a completed xs (v, m) ++ (cutCall a c k (callsLeave mirror a xs (v, m) .1) ∷ []))
       -- or between any two, before the first or behind the last
       pub power-between : (xs ys : List Call) → writeCalls v a P m ≡ xs ++ ys
           → (f : WriteCut) × WriteCutOf (vol .size) f × (events v (write a P m (cutAt f)) ≡ callEvents a completed xs (v, m))

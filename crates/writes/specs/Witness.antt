@@ -17,7 +17,7 @@ use Rattle.history.specs.Power.{Cut, cut, Images, CutOf}
 use Rattle.history.specs.History.{own}
 use Rattle.history.specs.Witness.{AcceptedVolume}
 use Rattle.suspects.specs.History.{Lent, lentRefusal, runLent}
-use Rattle.writes.specs.History.{WriteCut, cutAt, LaptopEvent, write, broken, events, AllLaptopAllowed, runLaptop, holdLaptop}
+use Rattle.writes.specs.History.{WriteCut, cutAt, LaptopEvent, write, cutCall, events, AllLaptopAllowed, runLaptop, holdLaptop}
 
 module _ (vol : Volume) where
   -- the bytes x in place d of a sector sealed with zeros leave it doubtful there
@@ -41,7 +41,7 @@ module _ (vol : Volume) where
     -- the calls before it, and the map that it is lent
     pub earlier : List Lent
     pub last : List ℕ
-    pub ends : events v e ≡ earlier ++ (broken (toSector i) c k last ∷ [])
+    pub ends : events v e ≡ earlier ++ (cutCall (toSector i) c k last ∷ [])
     pub accepted : lentRefusal (runLent vol v earlier) (toSector i) c last ≡ none
 
   -- there is such an event in the list es
