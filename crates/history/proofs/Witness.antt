@@ -28,7 +28,7 @@ use Rattle.history.proofs.Refusals.{passes-early, refusal-late}
 use Rattle.history.proofs.Sector.{some-inj, judge-sure, whole-accepted, local-accepted, tagged-accepted}
 
 -- images of the right lengths pass check 8
-images-shape : (s n : ℕ) (v : Triple) → 1 ≤ n → n ≤ 65536 → Images s n v → isShape s n v ≡ true
+pub images-shape : (s n : ℕ) (v : Triple) → 1 ≤ n → n ≤ 65536 → Images s n v → isShape s n v ≡ true
 unfolding isShape shape
 images-shape s n v least most I =
     and-both (leb 1 n) _ (le-leb 1 n least)

@@ -12,9 +12,10 @@ use Rattle.answers.specs.Answers.{placeNamed, judgedNumber, refusalNumber}
 use Rattle.answers.specs.Rules.{Args}
 use Rattle.history.specs.Volume.{Call, first, second, third, mend, read, mirror}
 use Rattle.suspects.specs.Marks.{mapOutcome, mapReadOutcome}
+use Rattle.suspects.proofs.Marking.{refusal-apart}
 use Rattle.suspects.proofs.Calls.{map-calls}
 use Rattle.writes.specs.Write.{stages, callsLeave, writeOutcome}
-use Rattle.writes.proofs.Following.{after-doubt, after-refusal, refusal-apart, wrote}
+use Rattle.writes.proofs.Following.{after-doubt, after-refusal, wrote}
 use Rattle.writes.proofs.Room.{least-read}
 use Rattle.laptop.specs.declared.Step.{Step}
 use Rattle.laptop.specs.Inner.{callOf}

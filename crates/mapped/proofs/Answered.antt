@@ -3,7 +3,6 @@ use mathlib.Core.Path.{_≡_, refl, sym, ap, _∙_}
 use mathlib.Core.Bool.{Bool, true, false, cond}
 use mathlib.Core.List.{List}
 use Prim.Native.Nat.{ℕ}
-use native.Mathlib.Omega.{arith}
 use lib.Dec.{eqb}
 use borrow.Author.Tests.{ne-eqb}
 use Rattle.mode.specs.Scheme.{Place, local, tag, remote}
@@ -15,20 +14,13 @@ use Rattle.answers.specs.declared.Place as E
 use Rattle.answers.specs.declared.Refusal.{Refusal}
 use Rattle.answers.specs.declared.Refusal.the-variants.{Lost, Clashing}
 use Rattle.answers.specs.Answers.{doubtNumber, refusalNumber, placeNamed, doneNumber, judgedNumber}
-use Rattle.answers.proofs.Numbers.{refusal-range, refusal-one}
+use Rattle.answers.proofs.Numbers.{refusal-one}
 use Rattle.history.specs.Volume.{mend}
 use Rattle.suspects.specs.declared.Mark.{Mark}
 use Rattle.suspects.specs.declared.Mark.the-variants.{Clears, Sets, Keeps}
 use Rattle.suspects.specs.Marks.{isFinished, lostOrClashing, marks, marked}
+use Rattle.suspects.proofs.Marking.{refusal-apart}
 use Rattle.mapped.specs.Inner.{doneMark, judgedMark}
-
--- no refusal is the number of a finished call
-refusal-apart : (f : Refusal) → isFinished (refusalNumber f) ≡ false
-unfolding isFinished
-refusal-apart f =
-    let r = refusal-range f in
-    let k : ℕ = refusalNumber f in
-    simp (ne-eqb k 0 (λ (e : k ≡ 0). omega arith), ne-eqb k 0x81 (λ (e : k ≡ 0x81). omega arith), ne-eqb k 0x82 (λ (e : k ≡ 0x82). omega arith), ne-eqb k 0x83 (λ (e : k ≡ 0x83). omega arith))
 
 -- ---- a call that only writes
 

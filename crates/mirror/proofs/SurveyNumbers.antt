@@ -1,15 +1,13 @@
 -- The five numbers of a survey by fitting. Assumes nothing.
 use mathlib.Core.Path.{_≡_, refl, sym, ap, subst, _∙_}
-use mathlib.Core.Bool.{Bool, true, false, not}
 use mathlib.Core.List.{List, [], _∷_}
 use mathlib.Core.Option.{Option, none, some}
-use Prim.Native.Nat.{ℕ}
+use Prim.Native.Nat.{ℕ, _<_}
 use native.Mathlib.Omega.{arith}
-use lib.Dec.{eqb, ltb}
+use lib.Dec.{lit<}
 use lib.ListN.{length}
-use Rattle.mode.specs.Scheme.{isKey, isSize}
 use Rattle.mode.specs.Sealing.{Triple}
-use Rattle.answers.specs.Rules.{rule, firstOf, isShape, mapWords, Volume}
+use Rattle.answers.specs.Rules.{isShape, surveyAndMapRules, Volume}
 use Rattle.verdict.specs.Verdict.{Verdict}
 use Rattle.history.specs.Answers.{isWhole}
 use Rattle.history.specs.HistoryFrom.{AnyBytes}
@@ -19,17 +17,17 @@ use Rattle.report.specs.declared.Counts.{Counts}
 use Rattle.report.specs.Survey.{tally, health, countsOf, written, Report, verdictAt, surveyed, surveyOutcome, ByFitting}
 use Rattle.report.proofs.SurveyFacts.{survey-facts}
 use Rattle.suspects.specs.Marks.{mapSurveyRefusal, mapSurveyOutcome}
+use Rattle.suspects.proofs.Marking.{every-first}
 use Rattle.suspects.proofs.Calls.{survey-done, survey-refused, survey-goes-on}
 use Rattle.mirror.specs.Survey.{surveyResult, SurveyNumbers}
 
 -- no refusal of a survey has the number 0
-not-zero : (a b c d e : Bool) → firstOf (rule 1 a ∷ rule 2 b ∷ rule 8 c ∷ rule 13 d ∷ rule 11 e ∷ []) ≡ some 0 → ⊥
-not-zero true b c d e h = let z : _≡_ {A = ℕ} 1 0 = cc in omega arith
-not-zero false true c d e h = let z : _≡_ {A = ℕ} 2 0 = cc in omega arith
-not-zero false false true d e h = let z : _≡_ {A = ℕ} 8 0 = cc in omega arith
-not-zero false false false true e h = let z : _≡_ {A = ℕ} 13 0 = cc in omega arith
-not-zero false false false false true h = let z : _≡_ {A = ℕ} 11 0 = cc in omega arith
-not-zero false false false false false h = let z : _≡_ {A = ℕ} 0 1 = cc in omega arith
+not-zero : (v : Triple) (vol : Volume) (m : List ℕ) (room : ℕ) → mapSurveyRefusal v vol m room ≡ some 0 → ⊥
+not-zero v vol m room e =
+    let z : 0 < 0 =
+    every-first (λ k. 0 < k) (surveyAndMapRules (vol .key) (vol .size) (vol .count) (isShape (vol .size) (vol .count) v) (length m) room)
+    (lit< tt, (lit< tt, (lit< tt, (lit< tt, (lit< tt, tt))))) 0 e in
+    omega arith
 
 module _ (v : Triple) (vol : Volume) (m list before : List ℕ) where
   abbrev w : ℕ → Verdict
@@ -59,7 +57,7 @@ module _ (v : Triple) (vol : Volume) (m list before : List ℕ) where
           )
       go (some k) d =
           let r : _≡_ {A = ℕ × (List ℕ × List ℕ)} (k, (before, list)) (0, (five, after)) = sym (refuses k d) ∙ e in
-          absurd (not-zero (not (isKey (vol .key))) (not (isSize (vol .size))) (not (isShape (vol .size) (vol .count) v)) (not (eqb (length m) (mapWords (vol .count)))) (ltb (length list) (vol .count)) (d ∙ ap some (ap (λ (x : ℕ × (List ℕ × List ℕ)). x .0) r)))
+          absurd (not-zero v vol m (length list) (d ∙ ap some (ap (λ (x : ℕ × (List ℕ × List ℕ)). x .0) r)))
 
 pub survey-numbers : SurveyNumbers
 survey-numbers = record {

@@ -111,7 +111,8 @@ of-outcome v vol list Q q c after e = go (surveyRefusal v vol (length list)) ref
     go none d z = subst Q z (q (survey-passed v vol (length list) d .0))
     go (some m) d z = absurd (subst (λ (x : Report × List ℕ). IsCounted (x .0)) (sym z) tt)
 
-module _ (v : Triple) (bytes : AnyBytes v) (vol : Volume) (o : Common v vol) where
+-- by fitting, so for every key of 32 bytes, whether or not the calls accept it
+module _ (v : Triple) (bytes : AnyBytes v) (vol : Volume) (keyed : isKey (vol .key) ≡ true) (sized : isSize (vol .size) ≡ true) (shaped : isShape (vol .size) (vol .count) v ≡ true) where
   abbrev s : ℕ
   s = vol .size
 
@@ -125,10 +126,10 @@ module _ (v : Triple) (bytes : AnyBytes v) (vol : Volume) (o : Common v vol) whe
   w = verdictAt S s v
 
   exact : JudgeExact s S
-  exact = judge-exact s S (mirror-sound (vol .number) .lawful (vol .key) s (o .key) (o .size))
+  exact = judge-exact s S (mirror-sound (vol .number) .lawful (vol .key) s keyed sized)
 
   sector-at : (i : ℕ) → i < n → Sector s (sectorOf s i v)
-  sector-at i lt = sector-images s n i lt v (shape-images s n v (o .shape) bytes)
+  sector-at i lt = sector-images s n i lt v (shape-images s n v shaped bytes)
 
   whole-at : (i : ℕ) → i < n → (isWhole (w i) ≡ true) ↔ WholeAt vol v i
   unfolding w
@@ -205,7 +206,7 @@ module _ (v : Triple) (bytes : AnyBytes v) (vol : Volume) (o : Common v vol) whe
     rounded-down = refl;
     health-most = health-most w n;
     health-full =
-        let f = health-full w n (shape-facts s n v (o .shape) .0) in
+        let f = health-full w n (shape-facts s n v shaped .0) in
         (λ e i lt. whole-at i lt .0 (f .0 e i lt), λ a. f .1 (λ i lt. whole-at i lt .1 (a i lt)));
     front = listed w n;
     by-kind = refl;
@@ -221,9 +222,9 @@ Fitted vol v before (counted c, after) = ByFitting vol v before c after
 
 pub by-fitting : (v : Triple) → AnyBytes v → (vol : Volume) (list : List ℕ) (c : Counts) (after : List ℕ)
     → surveyOutcome v vol list ≡ (counted c, after) → ByFitting vol v list c after
-by-fitting v bytes vol list c after e = of-outcome v vol list (Fitted vol v list) (λ o. accepted-fitting v bytes vol o list) c after e
+by-fitting v bytes vol list c after e = of-outcome v vol list (Fitted vol v list) (λ o. accepted-fitting v bytes vol (o .key) (o .size) (o .shape) list) c after e
 
 -- there is one list in repair order
 pub repair-once : (v : Triple) → AnyBytes v → (vol : Volume) → isKey (vol .key) ≡ true → isSize (vol .size) ≡ true → isShape (vol .size) (vol .count) v ≡ true
     → (P : ℕ → Type 0) (l m : List ℕ) → Lists (Before vol v) P (vol .count) l → Lists (Before vol v) P (vol .count) m → l ≡ m
-repair-once v bytes vol ek es eh = one-list (Before vol v) (vol .count) (before-asym v bytes vol (record { key = ek; size = es; shape = eh }))
+repair-once v bytes vol ek es eh = one-list (Before vol v) (vol .count) (before-asym v bytes vol ek es eh)

@@ -53,7 +53,7 @@ module _ (vol : Volume) (v : Triple) (bytes : AnyBytes v) (es : List Event) (all
   kept-not-lost o i lt e = go (isLost (verdictAt (own mirror vol) (vol .size) (run mirror vol v es) i)) refl
     where
       go : (b : Bool) → isLost (verdictAt (own mirror vol) (vol .size) (run mirror vol v es) i) ≡ b → b ≡ false
-      go true d = absurd (kept-found i lt e (lost-at (run mirror vol v es) (run-bytes mirror mirror-sound vol es v bytes allowed) vol o i lt .0 d))
+      go true d = absurd (kept-found i lt e (lost-at (run mirror vol v es) (run-bytes mirror mirror-sound vol es v bytes allowed) vol (o .key) (o .size) (o .shape) i lt .0 d))
       go false d = refl
 
   kept-counted : (list : List ℕ) (c : Counts) (after : List ℕ)

@@ -23,14 +23,14 @@ use Rattle.suspects.proofs.Calls.{marked-done, as-without, read-as-with
 
 module _ (vol : Volume) (v : Triple) (a : Args) (c : Call) (m : List ℕ) (f : Fate) where
   -- one that is refused, for its map or for another reason, changes nothing
-  refused-leaves : {k : ℕ} → lentRefusal v a c m ≡ some k → leavesLent v a c f m ≡ v
+  pub refused-leaves : {k : ℕ} → lentRefusal v a c m ≡ some k → leavesLent v a c f m ≡ v
   refused-leaves {k} e = go f
     where
       go : (f : Fate) → leavesLent v a c f m ≡ v
       go finished = ap (λ (r : ℕ × (Triple × List ℕ)). r .1 .0) (refuses v a m c k e)
       go (cut t) = ap (λ (o : Option ℕ). unless o v (landed mirror (torn t) v a c)) e
 
-  refused-machine : {k : ℕ} → lentRefusal v a c m ≡ some k → (h : State) → machine h (lentSeen vol v (call a c f) m) ≡ h
+  pub refused-machine : {k : ℕ} → lentRefusal v a c m ≡ some k → (h : State) → machine h (lentSeen vol v (call a c f) m) ≡ h
   refused-machine e h =
       let t : Told = told (sealing mirror a) (a .number) (sector (leavesLent v a c f m) a) c f in
       ap (λ (o : Option ℕ). machine h (called a c (isRefused o) t)) e

@@ -16,7 +16,9 @@ use Rattle.mode.specs.Sealing.{Triple}
 use Rattle.mode.specs.Scheme.{Place, local, tag, remote, Scheme}
 use Rattle.verdict.specs.Judging.{verdictDoubt}
 use Rattle.verdict.specs.Verdict.{Verdict, whole, doubtful, lost, clashing, judge}
-use Rattle.answers.specs.Answers.{doubtNumber, foundNumber}
+use Rattle.answers.specs.declared.Refusal.{Refusal}
+use Rattle.answers.specs.Answers.{doubtNumber, foundNumber, refusalNumber}
+use Rattle.answers.proofs.Numbers.{refusal-range}
 use Rattle.answers.specs.Rules.{Rule, rule, firstOf, Args, Volume, isShape, mapWords, volumeRules, mapRules, numberRules}
 use Rattle.answers.proofs.Rules.{cond-none, only-rule, none-right}
 use Rattle.history.specs.Answers.{answerNumber}
@@ -115,12 +117,12 @@ module _ (v : Triple) (a : Args) (m : List ℕ) where
 -- ---- the first of a list of rules
 
 -- the number of every rule has the property
-abbrev Every : (ℕ → Type 0) → List Rule → Type 0
+abbrev pub Every : (ℕ → Type 0) → List Rule → Type 0
 Every P [] = Unit {0}
 Every P (r ∷ rs) = P (r .number) × Every P rs
 
 module _ (P : ℕ → Type 0) where
-  every-first : (rs : List Rule) → Every P rs → (k : ℕ) → firstOf rs ≡ some k → P k
+  pub every-first : (rs : List Rule) → Every P rs → (k : ℕ) → firstOf rs ≡ some k → P k
   every-first [] q k e = absurd (none-some e)
   every-first (r ∷ rs) q k e = go (r .condition) (every-first rs (q .1) k) e
     where
@@ -226,7 +228,15 @@ keeps-or-sets c k (inr (j, inr e)) = inr (ap (marks c) e ∙ lost-or-clashing-se
 
 -- ---- a call that no rule turns away
 
-found-finished : (d : Option Place) → isFinished (foundNumber d) ≡ true
+-- no refusal is the number of a finished call
+pub refusal-apart : (f : Refusal) → isFinished (refusalNumber f) ≡ false
+unfolding isFinished
+refusal-apart f =
+    let r = refusal-range f in
+    let k : ℕ = refusalNumber f in
+    simp (ne-eqb k 0 (λ (e : k ≡ 0). omega arith), ne-eqb k 0x81 (λ (e : k ≡ 0x81). omega arith), ne-eqb k 0x82 (λ (e : k ≡ 0x82). omega arith), ne-eqb k 0x83 (λ (e : k ≡ 0x83). omega arith))
+
+pub found-finished : (d : Option Place) → isFinished (foundNumber d) ≡ true
 unfolding isFinished
 found-finished none = refl
 found-finished (some local) = refl

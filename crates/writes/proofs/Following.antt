@@ -3,16 +3,12 @@ use mathlib.Core.Path.{_≡_, refl, sym, ap, _∙_}
 use mathlib.Core.Bool.{Bool, true, false, _||_, cond}
 use mathlib.Core.List.{List, [], _∷_}
 use Prim.Native.Nat.{ℕ}
-use native.Mathlib.Omega.{arith}
 use lib.Dec.{eqb}
 use lib.ListN.{length}
-use borrow.Author.Tests.{ne-eqb}
 use Rattle.block.proofs.Lists.{false-true}
 use Rattle.mode.specs.Sealing.{Triple}
 use Rattle.mode.specs.Scheme.{Place, local, tag, remote}
-use Rattle.answers.specs.declared.Refusal.{Refusal}
-use Rattle.answers.specs.Answers.{doubtNumber, refusalNumber}
-use Rattle.answers.proofs.Numbers.{refusal-range}
+use Rattle.answers.specs.Answers.{doubtNumber}
 use Rattle.answers.specs.Rules.{Args}
 use Rattle.history.specs.Volume.{Call, mend, read, mirror}
 use Rattle.suspects.specs.Marks.{isFinished, mapOutcome}
@@ -32,14 +28,6 @@ after-refusal P k e = go (eqb k 0) _ e
     go : (b c : Bool) → (b || c) ≡ false → cond b (stages P) (cond (b || c) (mend ∷ stages P) []) ≡ []
     go true c e = false-true (sym e)
     go false c e = ap (λ (x : Bool). cond x (mend ∷ stages P) []) e
-
--- no refusal is such a number
-pub refusal-apart : (f : Refusal) → isFinished (refusalNumber f) ≡ false
-unfolding isFinished
-refusal-apart f =
-    let r = refusal-range f in
-    let k : ℕ = refusalNumber f in
-    simp (ne-eqb k 0 (λ (e : k ≡ 0). omega arith), ne-eqb k 0x81 (λ (e : k ≡ 0x81). omega arith), ne-eqb k 0x82 (λ (e : k ≡ 0x82). omega arith), ne-eqb k 0x83 (λ (e : k ≡ 0x83). omega arith))
 
 -- the write, by what its read answers
 pub wrote : (v : Triple) (a : Args) (P m : List ℕ) {k : ℕ} {d e : Triple × List ℕ} {cs : List Call} → mapOutcome mirror v a (read (length P)) m ≡ (k, d) → following P k ≡ cs

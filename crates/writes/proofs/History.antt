@@ -9,15 +9,14 @@ use lib.ListN.{length}
 use Rattle.block.specs.Bytes.{Bytes}
 use Rattle.block.proofs.Lists.{false-true}
 use Rattle.mode.specs.Sealing.{Triple}
-use Rattle.mode.specs.Scheme.{Place, local, tag, remote}
+use Rattle.mode.specs.Scheme.{Place}
 use Rattle.verdict.specs.Verdict.{Verdict, whole, doubtful, lost, clashing, Means}
 use Rattle.verdict.specs.Judging.{verdictNumber}
-use Rattle.answers.specs.Answers.{doubtNumber}
 use Rattle.answers.specs.Rules.{Rule, firstOf, Args, Volume, lengthRules}
 use Rattle.answers.proofs.Rules.{none-left}
 use Rattle.history.specs.Machine.{kept, State, machine, start, called, Told, toldFinished}
-use Rattle.history.specs.Power.{Cut, Fate, finished, cut, call, Images, LentBytes, isRefused, told, torn}
-use Rattle.history.specs.Volume.{Call, first, second, third, mend, read, late, mirror, unless, landed, sector, sealing}
+use Rattle.history.specs.Power.{Cut, Fate, finished, cut, call, Images, LentBytes, isRefused, told}
+use Rattle.history.specs.Volume.{Call, first, second, third, mend, read, late, mirror, sector, sealing}
 use Rattle.history.specs.History.{at, own}
 use Rattle.history.specs.HistoryFrom.{AnyBytes}
 use Rattle.history.specs.Meaning.{Is}
@@ -27,9 +26,8 @@ use Rattle.history.proofs.Events.{put-same}
 use Rattle.suspects.specs.Marks.{isFinished, firstRules, mapOutcome}
 use Rattle.suspects.specs.Calls.{callOrder}
 use Rattle.suspects.specs.History.{Lent, lentRefusal, leavesLent, lentLeaves, lentSeen, AllLentAllowed, runLent, holdLent, FoundLent, PromiseLent, PromisedLent}
-use Rattle.suspects.proofs.Calls.{map-calls}
-use Rattle.suspects.proofs.History.{demand-3-with-maps}
-use Rattle.suspects.proofs.Marking.{map-passed}
+use Rattle.suspects.proofs.History.{refused-leaves, refused-machine, demand-3-with-maps}
+use Rattle.suspects.proofs.Marking.{found-finished, map-passed}
 use Rattle.writes.specs.Write.{following, callsLeave, writeOutcome}
 use Rattle.writes.specs.Meaning.{callsAnswer, writeRules, WritePasses}
 use Rattle.writes.specs.History.{WriteCut, beforeCall, inCall, afterCall, WriteFate, completed, cutAt, LaptopEvent, single, write, writeCalls, finishedCall, cutCall, callEvents, events, WriteCutOf, WriteFateOf, laptopLeaves, LaptopAllowed, AllLaptopAllowed, runLaptop, holdLaptop, OldOrNew, NotClashing, heldAfter, WriteKeeps, WritePromised, PromisedLaptop, LaptopHistory}
@@ -42,12 +40,6 @@ use Rattle.writes.proofs.Machine.{Writing, AllWriting, calls-writing, w
 abbrev pub AllFinished : List ℕ → Type 0
 AllFinished [] = Unit {0}
 AllFinished (k ∷ ks) = (isFinished k ≡ true) × AllFinished ks
-
-pub doubt-finished : (d : Place) → isFinished (doubtNumber d) ≡ true
-unfolding isFinished
-doubt-finished local = refl
-doubt-finished tag = refl
-doubt-finished remote = refl
 
 -- the calls xs have finished, and then
 abbrev pub after-all : List Call → WriteCut → WriteCut
@@ -139,24 +131,17 @@ module _ (vol : Volume) where
     -- ---- a write that is refused
 
     module _ (c : Call) (v : Triple) (m : List ℕ) (k : ℕ) (e : lentRefusal v a c m ≡ some k) where
-      call-leaves : (f : Fate) → leavesLent v a c f m ≡ v
-      call-leaves finished = ap (λ (r : ℕ × (Triple × List ℕ)). r .1 .0) (map-calls .refuses v a c m k e)
-      call-leaves (cut t) = ap (λ (o : Option ℕ). unless o v (landed mirror (torn t) v a c)) e
-
-      call-held : (f : Fate) (h : State) → after-call c f v m h ≡ h
-      call-held f h = ap (λ (o : Option ℕ). machine h (called a c (isRefused o) (was-told c f v m h))) e
-
       lone-leaves : (f : WriteFate) → runLent vol v (callEvents a f (c ∷ []) (v, m)) ≡ v
-      lone-leaves completed = call-leaves finished
+      lone-leaves completed = refused-leaves vol v a c m finished e
       lone-leaves (cutAt beforeCall) = refl
-      lone-leaves (cutAt (inCall t)) = call-leaves (cut t)
-      lone-leaves (cutAt (afterCall g)) = call-leaves finished
+      lone-leaves (cutAt (inCall t)) = refused-leaves vol v a c m (cut t) e
+      lone-leaves (cutAt (afterCall g)) = refused-leaves vol v a c m finished e
 
       lone-held : (f : WriteFate) (h : State) → holdLent vol v h (callEvents a f (c ∷ []) (v, m)) ≡ h
-      lone-held completed h = call-held finished h
+      lone-held completed h = refused-machine vol v a c m finished e h
       lone-held (cutAt beforeCall) h = refl
-      lone-held (cutAt (inCall t)) h = call-held (cut t) h
-      lone-held (cutAt (afterCall g)) h = call-held finished h
+      lone-held (cutAt (inCall t)) h = refused-machine vol v a c m (cut t) e h
+      lone-held (cutAt (afterCall g)) h = refused-machine vol v a c m finished e h
 
       lone-allowed : LentBytes c → (f : WriteFate) → WriteFateOf (vol .size) f → AllLentAllowed vol v (callEvents a f (c ∷ []) (v, m))
       lone-allowed l completed g = ((λ z. absurd (none-some (sym z ∙ e)), l, tt), tt)
@@ -266,7 +251,7 @@ module _ (vol : Volume) where
       found-by : (e : WritePasses v a P m) (w : Verdict) → Is v a w → (Is v a lost → ⊥) → (Is v a clashing → ⊥) → isFinished (writeOutcome mirror v a P m .0) ≡ true
       unfolding isFinished
       found-by e (whole Q) is l c = ap isFinished (number-by v b a P bytes m e (whole Q) is)
-      found-by e (doubtful d Q) is l c = ap isFinished (number-by v b a P bytes m e (doubtful d Q) is) ∙ doubt-finished d
+      found-by e (doubtful d Q) is l c = ap isFinished (number-by v b a P bytes m e (doubtful d Q) is) ∙ found-finished (some d)
       found-by e lost is l c = absurd (l is)
       found-by e clashing is l c = absurd (c is)
 

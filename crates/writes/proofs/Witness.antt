@@ -1,17 +1,16 @@
 -- A list in which power goes in each of the calls of a write. Assumes nothing but the laws of the sealing.
 use mathlib.Core.Path.{_≡_, refl, sym, ap, subst, _∙_}
-use mathlib.Core.Bool.{true}
 use mathlib.Core.List.{List, [], _∷_, _++_, append-assoc}
 use mathlib.Core.Option.{Option, none, some}
-use Prim.Native.Nat.{ℕ, _*_, _<_}
+use Prim.Native.Nat.{ℕ, _<_}
 use lib.ListN.{length, replicate, length-replicate}
-use borrow.Author.Tests.{eq-eqb, le-leb}
+use borrow.Author.Tests.{eq-eqb}
 use Rattle.block.specs.Bytes.{Plain}
 use Rattle.block.proofs.Lists.{plain-zeros}
 use Rattle.mode.specs.Sealing.{Triple}
 use Rattle.mode.specs.Scheme.{Place, local, tag, remote, on, Scheme, Lawful}
 use Rattle.verdict.specs.Verdict.{whole, doubtful, Means}
-use Rattle.answers.specs.Rules.{Args, Volume, isShape, shape, lengthRules, mapWords}
+use Rattle.answers.specs.Rules.{Args, Volume, shape, lengthRules, mapWords}
 use Rattle.answers.proofs.Rules.{first-none}
 use Rattle.answers.proofs.Passing.{Common, sector-pass}
 use Rattle.history.specs.Volume.{Call, blank, first, second, third, mend, read, store, outcome, mirror}
@@ -27,9 +26,10 @@ use Rattle.history.proofs.Images.{any-bytes, sector-write, images-all, sector-a
 use Rattle.history.proofs.Meaning.{calls-mean}
 use Rattle.history.proofs.Refusals.{passes-early}
 use Rattle.history.proofs.Sector.{AllPlain}
+use Rattle.history.proofs.Witness.{images-shape}
 use Rattle.suspects.specs.Marks.{isFinished, firstRules, mapOutcome}
 use Rattle.suspects.specs.History.{Lent, lentRefusal, holdLent}
-use Rattle.suspects.proofs.Marking.{nine, right-words}
+use Rattle.suspects.proofs.Marking.{found-finished, nine, right-words}
 use Rattle.suspects.proofs.Calls.{map-calls}
 use Rattle.writes.specs.Write.{stages, following, callsLeave}
 use Rattle.writes.specs.Meaning.{callsAnswer, WritePasses}
@@ -38,7 +38,7 @@ use Rattle.writes.specs.Witness.{Doubt, toSector, CutIn, Met, EveryCut}
 use Rattle.writes.proofs.Accepted.{finished-accepted}
 use Rattle.writes.proofs.Following.{after-doubt}
 use Rattle.writes.proofs.Meaning.{read-by, number-by, whole-runs, doubtful-runs}
-use Rattle.writes.proofs.History.{after-all, after-all-of, AllFinished, doubt-finished, calls-lead, power-in, finished-new, laptop-allowed-both, laptop-run-both, laptop-hold-both, laptop-history}
+use Rattle.writes.proofs.History.{after-all, after-all-of, AllFinished, calls-lead, power-in, finished-new, laptop-allowed-both, laptop-run-both, laptop-hold-both, laptop-history}
 
 -- ---- lists one behind the other
 
@@ -114,15 +114,8 @@ module _ (vol : Volume) (accepted : AcceptedVolume vol) (i : ℕ) (lt : i < vol 
   lawful = mirror-sound (vol .number) .lawful (vol .key) (vol .size) (accepted .key) (accepted .size)
 
   module _ (v : Triple) (I : Images (vol .size) (vol .count) v) where
-    right-shape : isShape (vol .size) (vol .count) v ≡ true
-    unfolding isShape shape
-    right-shape =
-        let n : ℕ = vol .count in
-        let s : ℕ = vol .size in
-        simp (le-leb 1 n (accepted .least), le-leb n 65536 (accepted .most), eq-eqb (length (v .local)) (n * s) (I .images local .long), eq-eqb (length (v .remote)) (n * s) (I .images remote .long), eq-eqb (length (v .tag)) (n * 16) (I .images tag .long))
-
     checked : Common v vol
-    checked = record { key = accepted .key; size = accepted .size; shape = right-shape }
+    checked = record { key = accepted .key; size = accepted .size; shape = images-shape (vol .size) (vol .count) v (accepted .least) (accepted .most) I }
 
     passes : WritePasses v here P m
     passes =
@@ -196,7 +189,7 @@ module _ (vol : Volume) (accepted : AcceptedVolume vol) (i : ℕ) (lt : i < vol 
         write-cut-in vol i P k v h (some d) held m (read (length P) ∷ []) mend (stages P)
         (ap (λ (j : ℕ). read (length P) ∷ following P j) (read-by v bytes-of here P (plain .bytes) m (passes v I) (doubtful d zeros) is)
         ∙ ap (λ (cs : List Call). read (length P) ∷ cs) (after-doubt P d))
-        (subst AllFinished (sym (doubtful-runs v bytes-of here P (plain .bytes) m (passes v I) d zeros is)) (doubt-finished d, (doubt-finished d, (refl, (refl, (refl, tt))))))
+        (subst AllFinished (sym (doubtful-runs v bytes-of here P (plain .bytes) m (passes v I) d zeros is)) (found-finished (some d), (found-finished (some d), (refl, (refl, (refl, tt))))))
 
   -- ---- events that meet a cut in the call c
 
