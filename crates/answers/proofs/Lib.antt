@@ -1,4 +1,5 @@
 pub mod Rules
+pub mod Keys
 pub mod Shapes
 pub mod Passing
 pub mod Numbers

@@ -9,7 +9,7 @@ use types.Run.{OneOf, miss}
 use lib.Dec.{T, eqb, lit<}
 use Rattle.mode.specs.Scheme.{Place, local, tag, remote}
 use Rattle.answers.specs.declared.Refusal.{Refusal}
-use Rattle.answers.specs.declared.Refusal.the-variants.{KeyLength, SectorSize, OtherLength, UnknownSide, NoneFits, Lost, Clashing, VolumeShape, SectorNumber, StageOrder, ListLength, NoFrame, MapLength}
+use Rattle.answers.specs.declared.Refusal.the-variants.{KeyLength, SectorSize, OtherLength, UnknownSide, NoneFits, Lost, Clashing, VolumeShape, SectorNumber, StageOrder, ListLength, NoFrame, MapLength, ZeroHashKey}
 use Rattle.answers.specs.Answers.{doubtNumber, refusalNumber}
 use Rattle.answers.proofs.Refusal.{the-type}
 
@@ -27,6 +27,7 @@ refusal-range StageOrder = (lit< tt, lit< tt)
 refusal-range ListLength = (lit< tt, lit< tt)
 refusal-range NoFrame = (lit< tt, lit< tt)
 refusal-range MapLength = (lit< tt, lit< tt)
+refusal-range ZeroHashKey = (lit< tt, lit< tt)
 
 -- the refusal with a number
 abbrev numbered : ℕ → Refusal
@@ -43,7 +44,8 @@ numbered n =
     (cond (eqb n 10) StageOrder
     (cond (eqb n 11) ListLength
     (cond (eqb n 12) NoFrame
-    MapLength)))))))))))
+    (cond (eqb n 13) MapLength
+    ZeroHashKey))))))))))))
 
 numbered-back : (f : Refusal) → numbered (refusalNumber f) ≡ f
 numbered-back KeyLength = refl
@@ -59,6 +61,7 @@ numbered-back StageOrder = refl
 numbered-back ListLength = refl
 numbered-back NoFrame = refl
 numbered-back MapLength = refl
+numbered-back ZeroHashKey = refl
 
 -- so a number names one refusal
 pub refusal-one : (f g : Refusal) → refusalNumber f ≡ refusalNumber g → f ≡ g
@@ -73,7 +76,7 @@ doubt-least remote = lit< tt
 
 -- the enum's tags, and those but one
 abbrev pub tags : List ℕ
-tags = 0 ∷ 1 ∷ 2 ∷ 3 ∷ 4 ∷ 5 ∷ 6 ∷ 7 ∷ 8 ∷ 9 ∷ 10 ∷ 11 ∷ 12 ∷ []
+tags = 0 ∷ 1 ∷ 2 ∷ 3 ∷ 4 ∷ 5 ∷ 6 ∷ 7 ∷ 8 ∷ 9 ∷ 10 ∷ 11 ∷ 12 ∷ 13 ∷ []
 
 abbrev pub without : Refusal → List ℕ → List ℕ
 without g [] = []

@@ -9,7 +9,7 @@ use borrow.Author.Tests.{not-false, eqb-true, eq-eqb, lt-leb, ltb-false, le-ltb}
 use Rattle.mode.specs.Sealing.{Key, Triple}
 use Rattle.mode.specs.Scheme.{isKey, isSize}
 use Rattle.mode.proofs.Sizes.{size-whole, size-le}
-use Rattle.answers.specs.Rules.{Rule, firstOf, Volume, Args, isShape, lengthRules, numberRules, listRules, pairRules, partsRules, openRules, volumeRules, sectorRules, surveyRules}
+use Rattle.answers.specs.Rules.{Rule, firstOf, Volume, Args, isShape, isZeroHash, lengthRules, numberRules, listRules, pairRules, partsRules, openRules, volumeRules, sectorRules, surveyRules}
 use Rattle.answers.specs.Passing.{Sizes}
 use Rattle.answers.proofs.Rules.{cond-none, only-rule, first-none, none-left, none-right}
 
@@ -46,12 +46,12 @@ pair-passed s x y e =
 
 pub parts-passed : (k : Key) (s x y g : ℕ) → firstOf (partsRules k s x y g) ≡ none → (isKey k ≡ true) × Sizes s x y g
 parts-passed k s x y g e =
-    let (a, (b, (c, (d, (t, z))))) = none-holds (partsRules k s x y g) e in
+    let (a, (h, (b, (c, (d, (t, z)))))) = none-holds (partsRules k s x y g) e in
     (not-false (isKey k) a, sizes s x y g b (due x s c) (due y s d) (due g 16 t))
 
 pub open-passed : (k : Key) (s out g side : ℕ) → firstOf (openRules k s out g side) ≡ none → (isKey k ≡ true) × Sizes s out out g
 open-passed k s out g side e =
-    let (a, (b, (c, (t, z)))) = none-holds (openRules k s out g side) e in
+    let (a, (h, (b, (c, (t, z))))) = none-holds (openRules k s out g side) e in
     (not-false (isKey k) a, sizes s out out g b (due out s c) (due out s c) (due g 16 t))
 
 -- and what passes them
@@ -59,28 +59,29 @@ open-passed k s out g side e =
 pub pair-pass : (s x y : ℕ) → isSize s ≡ true → x ≡ s → y ≡ s → firstOf (pairRules s x y) ≡ none
 pair-pass s x y es ex ey = simp (es, eq-eqb x s ex, eq-eqb y s ey)
 
-pub parts-pass : (k : Key) (s x y g : ℕ) → isKey k ≡ true → isSize s ≡ true → x ≡ s → y ≡ s → g ≡ 16 → firstOf (partsRules k s x y g) ≡ none
-parts-pass k s x y g ek es ex ey eg = simp (ek, es, eq-eqb x s ex, eq-eqb y s ey, eq-eqb g 16 eg)
+pub parts-pass : (k : Key) (s x y g : ℕ) → isKey k ≡ true → isZeroHash k ≡ false → isSize s ≡ true → x ≡ s → y ≡ s → g ≡ 16 → firstOf (partsRules k s x y g) ≡ none
+parts-pass k s x y g ek eh es ex ey eg = simp (ek, eh, es, eq-eqb x s ex, eq-eqb y s ey, eq-eqb g 16 eg)
 
-pub open-pass : (k : Key) (s out g side : ℕ) → isKey k ≡ true → isSize s ≡ true → out ≡ s → g ≡ 16 → (eqb side 0 || eqb side 1) ≡ true
+pub open-pass : (k : Key) (s out g side : ℕ) → isKey k ≡ true → isZeroHash k ≡ false → isSize s ≡ true → out ≡ s → g ≡ 16 → (eqb side 0 || eqb side 1) ≡ true
     → firstOf (openRules k s out g side) ≡ none
-open-pass k s out g side ek es eo eg ed = simp (ek, es, eq-eqb out s eo, eq-eqb g 16 eg, ed)
+open-pass k s out g side ek eh es eo eg ed = simp (ek, eh, es, eq-eqb out s eo, eq-eqb g 16 eg, ed)
 
 -- ---- the calls on a volume
 
 -- what every one checks
 pub record Common (v : Triple) (vol : Volume) : Type 0 where
   pub key : isKey (vol .key) ≡ true
+  pub hash : isZeroHash (vol .key) ≡ false
   pub size : isSize (vol .size) ≡ true
   pub shape : isShape (vol .size) (vol .count) v ≡ true
 
 pub common : (v : Triple) (vol : Volume) → firstOf (volumeRules (vol .key) (vol .size) (isShape (vol .size) (vol .count) v)) ≡ none → Common v vol
 common v vol e =
-    let (a, (b, (c, z))) = none-holds (volumeRules (vol .key) (vol .size) (isShape (vol .size) (vol .count) v)) e in
-    record { key = not-false (isKey (vol .key)) a; size = not-false (isSize (vol .size)) b; shape = not-false (isShape (vol .size) (vol .count) v) c }
+    let (a, (h, (b, (c, z)))) = none-holds (volumeRules (vol .key) (vol .size) (isShape (vol .size) (vol .count) v)) e in
+    record { key = not-false (isKey (vol .key)) a; hash = h; size = not-false (isSize (vol .size)) b; shape = not-false (isShape (vol .size) (vol .count) v) c }
 
 pub volume-pass : (v : Triple) (vol : Volume) → Common v vol → firstOf (volumeRules (vol .key) (vol .size) (isShape (vol .size) (vol .count) v)) ≡ none
-volume-pass v vol c = simp (c .key, c .size, c .shape)
+volume-pass v vol c = simp (c .key, c .hash, c .size, c .shape)
 
 -- a call on one sector
 pub sector-pass : (v : Triple) (a : Args) → Common v (a .volume) → a .number < a .volume .count → firstOf (sectorRules (a .volume .key) (a .volume .size) (a .volume .count) (isShape (a .volume .size) (a .volume .count) v) (a .number)) ≡ none

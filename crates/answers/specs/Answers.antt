@@ -6,7 +6,7 @@ use Rattle.mode.specs.Scheme as M
 use Rattle.answers.specs.declared.Place.{Place}
 use Rattle.answers.specs.declared.Place.the-variants.{Local, Tag, Remote}
 use Rattle.answers.specs.declared.Refusal.{Refusal}
-use Rattle.answers.specs.declared.Refusal.the-variants.{KeyLength, SectorSize, OtherLength, UnknownSide, NoneFits, Lost, Clashing, VolumeShape, SectorNumber, StageOrder, ListLength, NoFrame, MapLength}
+use Rattle.answers.specs.declared.Refusal.the-variants.{KeyLength, SectorSize, OtherLength, UnknownSide, NoneFits, Lost, Clashing, VolumeShape, SectorNumber, StageOrder, ListLength, NoFrame, MapLength, ZeroHashKey}
 use Rattle.answers.specs.declared.Judged.{Judged}
 use Rattle.answers.specs.declared.Judged.the-variants as J
 use Rattle.answers.specs.declared.Done.{Done}
@@ -40,6 +40,7 @@ refusalNumber StageOrder = 10
 refusalNumber ListLength = 11
 refusalNumber NoFrame = 12
 refusalNumber MapLength = 13
+refusalNumber ZeroHashKey = 14
 
 -- the place that the code's enum names
 abbrev pub placeNamed : Place → M.Place

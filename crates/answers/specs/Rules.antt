@@ -1,4 +1,4 @@
--- Refusals on arguments (document 01, and 13 of change request S-4): each rule once, and the rules of each call in its order. Assumes
+-- Refusals on arguments (document 01, 13 of change request S-4 and 14 of S-7): each rule once, and the rules of each call in its order. Assumes
 -- nothing: these are definitions.
 use mathlib.Core.Bool.{Bool, true, not, _&&_, _||_, cond}
 use mathlib.Core.List.{List, [], _∷_, _++_}
@@ -6,7 +6,7 @@ use mathlib.Core.Option.{Option, none, some}
 use Prim.Native.Nat.{ℕ, _+_, _*_, _/_}
 use lib.Dec.{eqb, leb, ltb}
 use lib.ListN.{length}
-use Rattle.mode.specs.Sealing.{Key, Triple}
+use Rattle.mode.specs.Sealing.{Key, Triple, hashKey}
 use Rattle.mode.specs.Scheme.{isKey, isSize}
 
 -- ---- rules in order
@@ -81,9 +81,13 @@ mapWords n = (n + 63) / 64
 
 -- ---- each rule
 
--- 1: the key
+-- whether the hash key h is all zero
+unfoldable pub isZeroHash : Key → Bool
+isZeroHash k = eqb (hashKey k) 0
+
+-- the key: 1, its length, and directly after it 14, a hash key of zero
 abbrev pub keyRules : Key → List Rule
-keyRules k = rule 1 (not (isKey k)) ∷ []
+keyRules k = rule 1 (not (isKey k)) ∷ rule 14 (isZeroHash k) ∷ []
 
 -- 2: the size of a sector
 abbrev pub sizeRules : ℕ → List Rule

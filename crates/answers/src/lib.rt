@@ -14,7 +14,8 @@ pub enum Place {
     Remote,
 }
 
-// Document 01's refusals, from 1 on, and then those of the change requests. 12 is the program `frames`'s, the others from 8 on a volume's.
+// Document 01's refusals, from 1 on, and then those of the change requests. 12 is the program `frames`'s, 8 to 11 and
+// 13 are a volume's.
 pub enum Refusal {
     KeyLength,
     SectorSize,
@@ -29,6 +30,7 @@ pub enum Refusal {
     ListLength,
     NoFrame,
     MapLength,
+    ZeroHashKey,
 }
 
 // What judging answers.
@@ -73,6 +75,7 @@ pub fn refusal_number(f: Refusal) -> u8
         Refusal::ListLength => 11,
         Refusal::NoFrame => 12,
         Refusal::MapLength => 13,
+        Refusal::ZeroHashKey => 14,
     }
 }
 
@@ -107,15 +110,18 @@ fn first_refusal(one: Done, other: Done) -> Done
     }
 }
 
-// Refusal 1.
+// Refusals 1 and 14. One test for both words of the hash key h, so that its time says no more of h than the answer does.
 fn check_key(key: &[u8]) -> Done
     ensures { λ r. ⌜ firstOf (keyRules (keyFrom (now (key .entry)))) ≡ doneOption r ⌝ }
 {
-    if key.len() == 32 {
-        Done::Done
-    } else {
-        Done::Refused(Refusal::KeyLength)
+    if key.len() != 32 {
+        return Done::Refused(Refusal::KeyLength);
     }
+    let h = block::load(key, 0);
+    if h.hi | h.lo == 0 {
+        return Done::Refused(Refusal::ZeroHashKey);
+    }
+    Done::Done
 }
 
 // Whether s is the size of a sector.
@@ -258,7 +264,7 @@ pub fn check_pair(s: usize, x: usize, y: usize) -> Done
     first_refusal(size, lengths)
 }
 
-// Refusals 1, 2 and 3 of seal and judge.
+// Refusals 1, 14, 2 and 3 of seal and judge.
 pub fn check_parts(key: &[u8], s: usize, x: usize, y: usize, g: usize) -> Done
     ensures { λ r. ⌜ firstOf (partsRules (keyFrom (now (key .entry))) s x y g) ≡ doneOption r ⌝ }
 {
@@ -269,7 +275,7 @@ pub fn check_parts(key: &[u8], s: usize, x: usize, y: usize, g: usize) -> Done
     first_refusal(keyed, parts)
 }
 
-// Refusals 1 to 4 of open and rebuild.
+// Refusals 1, 14, 2, 3 and 4 of open and rebuild.
 pub fn check_open(key: &[u8], s: usize, out: usize, g: usize, side: u32) -> Done
     ensures { λ r. ⌜ firstOf (openRules (keyFrom (now (key .entry))) s out g side) ≡ doneOption r ⌝ }
 {
@@ -284,7 +290,7 @@ pub fn check_open(key: &[u8], s: usize, out: usize, g: usize, side: u32) -> Done
     first_refusal(keyed, opened)
 }
 
-// Refusals 1, 2 and 8, of every call on a volume.
+// Refusals 1, 14, 2 and 8, of every call on a volume.
 fn check_volume(key: &[u8], s: usize, n: usize, l: usize, g: usize, r: usize) -> Done
     ensures { λ d. ⌜ firstOf (volumeRules (keyFrom (now (key .entry))) s (shape s n l g r)) ≡ doneOption d ⌝ }
 {
@@ -322,7 +328,7 @@ pub fn check_sector_and_length(
     first_refusal(sector, plain)
 }
 
-// Refusals 1, 2, 8 and 11 of a survey with a list of `room` numbers.
+// Refusals 1, 14, 2, 8 and 11 of a survey with a list of `room` numbers.
 pub fn check_survey(
     key: &[u8],
     s: usize,
@@ -339,7 +345,7 @@ pub fn check_survey(
     first_refusal(images, list)
 }
 
-// Refusals 1, 2, 8, 13 and 9 of a call on sector i with a map of `words` words.
+// Refusals 1, 14, 2, 8, 13 and 9 of a call on sector i with a map of `words` words.
 pub fn check_sector_and_map(
     key: &[u8],
     s: usize,
@@ -359,7 +365,7 @@ pub fn check_sector_and_map(
     first_refusal(images, sector)
 }
 
-// Refusals 1, 2, 8, 13 and 11 of a survey with a map of `words` words and a list of `room` numbers.
+// Refusals 1, 14, 2, 8, 13 and 11 of a survey with a map of `words` words and a list of `room` numbers.
 pub fn check_survey_and_map(
     key: &[u8],
     s: usize,

@@ -19,6 +19,7 @@ use Rattle.mode.proofs.KeyFacts.{key-facts}
 use Rattle.mode.proofs.Laws.{pad-is, tag-is}
 use Rattle.verdict.specs.Verdict.{Fits, candidate}
 use Rattle.verdict.proofs.JudgeExact.{FitsBut, local-tag, tag-remote, but-tag, two-but, but-two, only, one-for-a-pair}
+use Rattle.answers.specs.Rules.{isZeroHash}
 use Rattle.history.specs.Volume.{mirror, store}
 use Rattle.history.proofs.Demand3.{mirror-sound}
 use Rattle.history.specs.Witness.{AcceptedVolume}
@@ -102,8 +103,8 @@ some-doubt = (
 )
 
 accepted : AcceptedVolume someVolume
-unfolding toBytes isKey isSize
-accepted = record { key = refl; size = refl; least = omega arith; most = omega arith }
+unfolding number fromBytes toBytes hashKey isKey isZeroHash isSize
+accepted = record { key = refl; hash = refl; size = refl; least = omega arith; most = omega arith }
 
 pub some-cuts : SomeCuts
 some-cuts v I P p k c = each-cut someVolume accepted v I 0 (omega arith) P p k c tag zeros some-doubt

@@ -46,7 +46,7 @@ module _ (vol : Volume) (accepted : AcceptedVolume vol) (i : ℕ) (lt : i < vol 
   passes v I c l =
       passes-early v a c
       (record {
-        common = record { key = accepted .key; size = accepted .size; shape = images-shape (vol .size) (vol .count) v (accepted .least) (accepted .most) I };
+        common = record { key = accepted .key; hash = accepted .hash; size = accepted .size; shape = images-shape (vol .size) (vol .count) v (accepted .least) (accepted .most) I };
         number = lt;
         lengths = l;
       })

@@ -1,22 +1,23 @@
 -- Demand 3 is not empty: on every volume that the calls accept, events lead from any images to each state of a sector that the machine can
 -- keep, and proper calls are there. Proved as `reached`.
 use mathlib.Core.Path.{_≡_}
-use mathlib.Core.Bool.{true}
+use mathlib.Core.Bool.{true, false}
 use mathlib.Core.List.{List}
 use mathlib.Core.Option.{Option}
 use Prim.Native.Nat.{ℕ, _≤_, _<_}
 use Rattle.block.specs.Bytes.{Plain}
 use Rattle.mode.specs.Sealing.{Triple}
 use Rattle.mode.specs.Scheme.{Place, isKey, isSize}
-use Rattle.answers.specs.Rules.{Args, Volume}
+use Rattle.answers.specs.Rules.{Args, Volume, isZeroHash}
 use Rattle.history.specs.Volume.{first, mend, mirror}
 use Rattle.history.specs.Machine.{Held, kept, start}
 use Rattle.history.specs.Power.{Event, Images, AllAllowed, run, hold}
 use Rattle.history.specs.History.{Proper, ProperRead}
 
--- a key, a size and a count that the calls accept, and any number
+-- a key, with its hash key, a size and a count that the calls accept, and any number
 pub record AcceptedVolume (vol : Volume) : Type 0 where
   pub key : isKey (vol .key) ≡ true
+  pub hash : isZeroHash (vol .key) ≡ false
   pub size : isSize (vol .size) ≡ true
   pub least : 1 ≤ vol .count
   pub most : vol .count ≤ 65536

@@ -52,7 +52,7 @@ module _ (v : Triple) (k : Key) (volume s n i : ℕ) where
       read-late mirror v a out e
       ∙ sym
       (judge-passes (k .bytes) volume i t out
-      (parts-pass k (length (t .local)) (length (t .remote)) (length out) (length (t .tag)) (q .common .key) (ap isSize l ∙ q .common .size)
+      (parts-pass k (length (t .local)) (length (t .remote)) (length out) (length (t .tag)) (q .common .key) (q .common .hash) (ap isSize l ∙ q .common .size)
       (sizes q remote ∙ sym l) (length-due (length out) s (q .lengths) ∙ sym l) (sizes q tag))
       refl refl)
 
@@ -67,7 +67,7 @@ module _ (v : Triple) (k : Key) (volume s n i : ℕ) where
   seals : {c : Call} → Passed v a c → (P : List ℕ) → length P ≡ s → sealCall k volume i P t ≡ (0, sealed k volume i P)
   seals q P l =
       seal-passes (k .bytes) volume i P t
-      (parts-pass k (length P) (length (t .local)) (length (t .remote)) (length (t .tag)) (q .common .key) (ap isSize l ∙ q .common .size)
+      (parts-pass k (length P) (length (t .local)) (length (t .remote)) (length (t .tag)) (q .common .key) (q .common .hash) (ap isSize l ∙ q .common .size)
       (sizes q local ∙ sym l) (sizes q remote ∙ sym l) (sizes q tag))
       refl refl
 

@@ -26,7 +26,7 @@ not-zero : (v : Triple) (vol : Volume) (m : List ℕ) (room : ℕ) → mapSurvey
 not-zero v vol m room e =
     let z : 0 < 0 =
     every-first (λ k. 0 < k) (surveyAndMapRules (vol .key) (vol .size) (vol .count) (isShape (vol .size) (vol .count) v) (length m) room)
-    (lit< tt, (lit< tt, (lit< tt, (lit< tt, (lit< tt, tt))))) 0 e in
+    (lit< tt, (lit< tt, (lit< tt, (lit< tt, (lit< tt, (lit< tt, tt)))))) 0 e in
     omega arith
 
 module _ (v : Triple) (vol : Volume) (m list before : List ℕ) where

@@ -17,12 +17,12 @@ ghost use Rattle.writes.specs.Write.{writeOutcome};
 ghost use Rattle.mirror.specs.Survey.{numbers, surveyResult};
 ghost use Rattle.mirror.specs.Version.{release};
 
-// The release that the library is of, 0.7.0, so that a program can tell whether it is the one that the program was compiled for.
+// The release that the library is of, 0.8.0, so that a program can tell whether it is the one that the program was compiled for.
 #[no_mangle]
 pub extern "C" fn mirror_version() -> u32
-    ensures { λ r. ⌜ r ≡ release 0 7 0 ⌝ }
+    ensures { λ r. ⌜ r ≡ release 0 8 0 ⌝ }
 {
-    7000
+    8000
 }
 
 fn done_number(d: Done) -> u32

@@ -11,7 +11,7 @@ use lib.ListN.{length, getD, drop}
 use Rattle.mode.specs.Sealing.{Triple}
 use Rattle.mode.specs.Scheme.{Place, isKey, isSize, Scheme}
 use Rattle.answers.specs.Answers.{refusalNumber}
-use Rattle.answers.specs.Rules.{firstOf, settleBy, Volume, isShape, surveyRules}
+use Rattle.answers.specs.Rules.{firstOf, settleBy, Volume, isShape, isZeroHash, surveyRules}
 use Rattle.verdict.specs.Verdict.{Verdict, whole, doubtful, lost, clashing, Means, judge}
 use Rattle.report.specs.declared.Counts.{Counts}
 use Rattle.report.specs.declared.Surveyed.{Surveyed}
@@ -170,7 +170,7 @@ pub record SurveyFacts : Type 1 where
   pub repair-once : (v : Triple) → AnyBytes v → (vol : Volume) → isKey (vol .key) ≡ true → isSize (vol .size) ≡ true → isShape (vol .size) (vol .count) v ≡ true
       → (P : ℕ → Type 0) (l m : List ℕ) → Lists (Before vol v) P (vol .count) l → Lists (Before vol v) P (vol .count) m → l ≡ m
   -- with a key, a size, a shape and a list that are right a survey is not refused
-  pub accepts : (v : Triple) (vol : Volume) (room : ℕ) → isKey (vol .key) ≡ true → isSize (vol .size) ≡ true → isShape (vol .size) (vol .count) v ≡ true
+  pub accepts : (v : Triple) (vol : Volume) (room : ℕ) → isKey (vol .key) ≡ true → isZeroHash (vol .key) ≡ false → isSize (vol .size) ≡ true → isShape (vol .size) (vol .count) v ≡ true
       → vol .count ≤ room → surveyRefusal v vol room ≡ none
   -- a refused survey leaves the list; any other answers with the counts of its verdicts
   pub refuses : (v : Triple) (vol : Volume) (list : List ℕ) (m : ℕ) → surveyRefusal v vol (length list) ≡ some m

@@ -1,7 +1,7 @@
 -- Demand 2. Assumes nothing.
 use mathlib.Core.Path.{_≡_, refl, sym, ap, subst, _∙_}
 use mathlib.Core.Logic.{_↔_}
-use mathlib.Core.Bool.{true, _||_}
+use mathlib.Core.Bool.{true, false, _||_}
 use mathlib.Core.List.{List}
 use mathlib.Core.Option.{Option, none, some}
 use Prim.Native.Nat.{ℕ}
@@ -12,7 +12,7 @@ use Rattle.block.specs.Bytes.{Plain}
 use Rattle.mode.specs.Sealing.{Key, Triple, tweak, sealed}
 use Rattle.mode.specs.Scheme.{Place, local, tag, remote, on, wide, Sector, isKey, isSize, Scheme, Lawful, dcm, scheme}
 use Rattle.mode.proofs.Laws.{sound}
-use Rattle.answers.specs.Rules.{firstOf, openRules}
+use Rattle.answers.specs.Rules.{isZeroHash, firstOf, openRules}
 use Rattle.answers.proofs.Passing.{pair-pass, parts-pass, open-pass}
 use Rattle.verdict.specs.Judging.{verdictOutcome}
 use Rattle.verdict.specs.Verdict.{Fits, Verdict, whole, doubtful, lost, clashing, Means, judge, Side, localSide, remoteSide, placeOf, otherSide, sideOf, opened}
@@ -77,21 +77,21 @@ module _ (k : Key) (volume s : ℕ) (ek : isKey k ≡ true) (es : isSize s ≡ t
   unfolding sealed scheme dcm
   the-mode address P = refl
 
-  seals : (address : ℕ) (P : List ℕ) (out : Triple) → Plain s P → ((p : Place) → length (on out p) ≡ wide s p) → sealCall k volume address P out ≡ (0, sealed k volume address P)
-  seals address P out plain long =
+  seals : isZeroHash k ≡ false → (address : ℕ) (P : List ℕ) (out : Triple) → Plain s P → ((p : Place) → length (on out p) ≡ wide s p) → sealCall k volume address P out ≡ (0, sealed k volume address P)
+  seals eh address P out plain long =
       let e = plain .long in
       seal-passes (k .bytes) volume address P out
-      (parts-pass k (length P) (length (out .local)) (length (out .remote)) (length (out .tag)) ek (ap isSize e ∙ es) (long local ∙ sym e) (long remote ∙ sym e) (long tag))
+      (parts-pass k (length P) (length (out .local)) (length (out .remote)) (length (out .tag)) ek eh (ap isSize e ∙ es) (long local ∙ sym e) (long remote ∙ sym e) (long tag))
       refl refl
 
   -- ---- judge
 
-  module _ (address : ℕ) (t : Triple) (out : List ℕ) (σ : Sector s t) (size : length out ≡ s) where
+  module _ (eh : isZeroHash k ≡ false) (address : ℕ) (t : Triple) (out : List ℕ) (σ : Sector s t) (size : length out ≡ s) where
     judge-is : judgeCall k volume address t out ≡ verdictOutcome (judge S (tweak volume address) t) out
     judge-is =
         let e = σ .places local .long in
         judge-passes (k .bytes) volume address t out
-        (parts-pass k (length (t .local)) (length (t .remote)) (length out) (length (t .tag)) ek (ap isSize e ∙ es) (σ .places remote .long ∙ sym e) (size ∙ sym e) (σ .places tag .long))
+        (parts-pass k (length (t .local)) (length (t .remote)) (length out) (length (t .tag)) ek eh (ap isSize e ∙ es) (σ .places remote .long ∙ sym e) (size ∙ sym e) (σ .places tag .long))
         refl refl
 
     judged : (w : Verdict) → (judgeCall k volume address t out ≡ verdictOutcome w out) ↔ Means s S (tweak volume address) t w
@@ -104,7 +104,7 @@ module _ (k : Key) (volume s : ℕ) (ek : isKey k ≡ true) (es : isSize s ≡ t
 
   -- ---- open and rebuild
 
-  module _ (address : ℕ) (d : Side) (x g out : List ℕ) (plain-x : Plain s x) (plain-g : Plain 16 g) (size : length out ≡ s) where
+  module _ (eh : isZeroHash k ≡ false) (address : ℕ) (d : Side) (x g out : List ℕ) (plain-x : Plain s x) (plain-g : Plain 16 g) (size : length out ≡ s) where
     abbrev result : Option (List ℕ)
     result = opened S (tweak volume address) d g x
 
@@ -141,7 +141,7 @@ module _ (k : Key) (volume s : ℕ) (ek : isKey k ≡ true) (es : isSize s ≡ t
 
     passes : firstOf (openRules k (length x) (length out) (length g) (sideNumber d)) ≡ none
     passes =
-        let e = plain-x .long in open-pass k (length x) (length out) (length g) (sideNumber d) ek (ap isSize e ∙ es) (size ∙ sym e) (plain-g .long) (side-right d)
+        let e = plain-x .long in open-pass k (length x) (length out) (length g) (sideNumber d) ek eh (ap isSize e ∙ es) (size ∙ sym e) (plain-g .long) (side-right d)
 
     abbrev itself : List ℕ → List ℕ
     itself P = P
@@ -183,24 +183,6 @@ module _ (k : Key) (volume s : ℕ) (ek : isKey k ≡ true) (es : isSize s ≡ t
     unfolding sealed scheme dcm
     long p = lawful .shape (tweak volume address) P plain .places p
 
-    side-plain : (d : Side) → Plain s (on t (placeOf d))
-    side-plain localSide = long local
-    side-plain remoteSide = long remote
-
-    judges-sealed : judgeCall k volume address t out ≡ (0, P)
-    unfolding sealed scheme dcm
-    judges-sealed = judges address t out (record { places = long }) size .at-whole P .1 (plain, λ p. refl)
-
-    itself-sealed : (d : Side) → SealsTo k volume s address d (on t (placeOf d)) (t .tag) P
-    itself-sealed d = record { size = plain; sector = refl; its-tag = refl }
-
-    opens-sealed : (d : Side) → openCall k volume address (sideNumber d) (on t (placeOf d)) (t .tag) out ≡ (0, P)
-    opens-sealed d = opens address d (on t (placeOf d)) (t .tag) out (side-plain d) (long tag) size .gives P .1 (itself-sealed d)
-
-    rebuilds-sealed : (d : Side) → rebuildCall k volume address (sideNumber d) (on t (placeOf d)) (t .tag) out ≡ (0, on t (placeOf (otherSide d)))
-    rebuilds-sealed d =
-        rebuilds address d (on t (placeOf d)) (t .tag) out (side-plain d) (long tag) size .writes (on t (placeOf (otherSide d))) .1 (P, itself-sealed d, refl)
-
     combines-sealed : combineCall (t .local) (t .remote) out ≡ (0, P)
     unfolding sealed scheme dcm
     combines-sealed =
@@ -209,21 +191,45 @@ module _ (k : Key) (volume s : ℕ) (ek : isKey k ≡ true) (es : isSize s ≡ t
         (pair-pass (length (t .local)) (length (t .remote)) (length out) (ap isSize e ∙ es) (long remote .long ∙ sym e) (size ∙ sym e))
         refl (sym (lawful .sum (tweak volume address) P plain))
 
+    -- under a key that is accepted
+    module _ (eh : isZeroHash k ≡ false) where
+      side-plain : (d : Side) → Plain s (on t (placeOf d))
+      side-plain localSide = long local
+      side-plain remoteSide = long remote
+
+      judges-sealed : judgeCall k volume address t out ≡ (0, P)
+      unfolding sealed scheme dcm
+      judges-sealed = judges eh address t out (record { places = long }) size .at-whole P .1 (plain, λ p. refl)
+
+      itself-sealed : (d : Side) → SealsTo k volume s address d (on t (placeOf d)) (t .tag) P
+      itself-sealed d = record { size = plain; sector = refl; its-tag = refl }
+
+      opens-sealed : (d : Side) → openCall k volume address (sideNumber d) (on t (placeOf d)) (t .tag) out ≡ (0, P)
+      opens-sealed d = opens eh address d (on t (placeOf d)) (t .tag) out (side-plain d) (long tag) size .gives P .1 (itself-sealed d)
+
+      rebuilds-sealed : (d : Side) → rebuildCall k volume address (sideNumber d) (on t (placeOf d)) (t .tag) out ≡ (0, on t (placeOf (otherSide d)))
+      rebuilds-sealed d =
+          rebuilds eh address d (on t (placeOf d)) (t .tag) out (side-plain d) (long tag) size .writes (on t (placeOf (otherSide d))) .1 (P, itself-sealed d, refl)
+
 pub demand-2 : Demand2-whole
-demand-2 k volume s ek es = record {
-  seals = seals k volume s ek es;
-  judges = judges k volume s ek es;
-  opens = opens k volume s ek es;
-  rebuilds = rebuilds k volume s ek es;
-  the-mode = the-mode k volume s ek es;
-  judges-sealed = judges-sealed k volume s ek es;
-  opens-sealed = λ address d P out p e. opens-sealed k volume s ek es address P out p e d;
-  rebuilds-sealed = λ address d P out p e. rebuilds-sealed k volume s ek es address P out p e d;
-  combines-sealed = combines-sealed k volume s ek es;
-  judging = judge-exact s (scheme k) (lawful k volume s ek es);
-  opening = open-exact s (scheme k) (lawful k volume s ek es);
-  one-for-two = one-for-two k volume s ek es;
-}
+demand-2 k volume s ek es = (
+  record {
+    the-mode = the-mode k volume s ek es;
+    combines-sealed = combines-sealed k volume s ek es;
+    judging = judge-exact s (scheme k) (lawful k volume s ek es);
+    opening = open-exact s (scheme k) (lawful k volume s ek es);
+    one-for-two = one-for-two k volume s ek es;
+  },
+  λ eh. record {
+    seals = seals k volume s ek es eh;
+    judges = judges k volume s ek es eh;
+    opens = opens k volume s ek es eh;
+    rebuilds = rebuilds k volume s ek es eh;
+    judges-sealed = λ address P out p e. judges-sealed k volume s ek es address P out p e eh;
+    opens-sealed = λ address d P out p e. opens-sealed k volume s ek es address P out p e eh d;
+    rebuilds-sealed = λ address d P out p e. rebuilds-sealed k volume s ek es address P out p e eh d;
+  },
+)
 
 pub size-bounds : SizeBounds
 unfolding isSize

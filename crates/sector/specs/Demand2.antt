@@ -1,5 +1,6 @@
 -- Demand 2 on the calls' definitions, as one statement: proved as `demand-2`. It is for every key of 32 bytes, every volume's number, every
--- sector size s, every address, and all bytes.
+-- sector size s, every address, and all bytes. What the calls that take a key answer is for keys that they accept, whose hash key is not
+-- zero (change request S-7); what sealing is, and combining, for all.
 use mathlib.Core.Path.{_≡_}
 use mathlib.Core.Logic.{_↔_}
 use mathlib.Core.Bool.{true, false}
@@ -11,6 +12,7 @@ use Rattle.mode.specs.Sealing.{Key, Triple, tweak, sealed}
 use Rattle.mode.specs.Scheme.{Place, on, wide, Sector, isKey, isSize, scheme}
 use Rattle.sector.specs.Calls.{sealCall, judgeCall, openCall, rebuildCall, combineCall}
 use Rattle.answers.specs.Answers.{doubtNumber}
+use Rattle.answers.specs.Rules.{isZeroHash}
 use Rattle.verdict.specs.Verdict.{Fits, whole, doubtful, lost, clashing, Means, Side, localSide, remoteSide, placeOf, otherSide, JudgeExact, OpenExact}
 
 -- the number of a side
@@ -44,23 +46,11 @@ pub record Rebuilds (k : Key) (volume s address : ℕ) (d : Side) (x g out : Lis
       ↔ ((P : List ℕ) × SealsTo k volume s address d x g P × (y ≡ on (sealed k volume address P) (placeOf (otherSide d))))
   pub refuses : (rebuildCall k volume address (sideNumber d) x g out ≡ (5, out)) ↔ ((P : List ℕ) → SealsTo k volume s address d x g P → ⊥)
 
-pub record Demand2 (k : Key) (volume s : ℕ) : Type 0 where
-  -- sealing equals the mode, whatever the three outputs held
-  pub seals : (address : ℕ) (P : List ℕ) (out : Triple) → Plain s P → ((p : Place) → length (on out p) ≡ wide s p)
-      → sealCall k volume address P out ≡ (0, sealed k volume address P)
-  -- for all bytes in sectors and tags of these lengths, whatever the output held: judging, opening and rebuilding answer what is meant
-  pub judges : (address : ℕ) (t : Triple) (out : List ℕ) → Sector s t → length out ≡ s → Judges k volume s address t out
-  pub opens : (address : ℕ) (d : Side) (x g out : List ℕ) → Plain s x → Plain 16 g → length out ≡ s → Opens k volume s address d x g out
-  pub rebuilds : (address : ℕ) (d : Side) (x g out : List ℕ) → Plain s x → Plain 16 g → length out ≡ s → Rebuilds k volume s address d x g out
+-- of every key of 32 bytes, also of one that the calls refuse for its hash key
+pub record EveryKey (k : Key) (volume s : ℕ) : Type 0 where
   -- what judging compares with, in `Means`, is what sealing gives under that key, number and address
   pub the-mode : (address : ℕ) (P : List ℕ) → scheme k .sealed (tweak volume address) P ≡ sealed k volume address P
-  -- of a sealed sector: it judges whole; either side and the tag open to the plaintext and rebuild the other side, and the two sides combine
-  -- to it
-  pub judges-sealed : (address : ℕ) (P out : List ℕ) → Plain s P → length out ≡ s → judgeCall k volume address (sealed k volume address P) out ≡ (0, P)
-  pub opens-sealed : (address : ℕ) (d : Side) (P out : List ℕ) → Plain s P → length out ≡ s
-      → openCall k volume address (sideNumber d) (on (sealed k volume address P) (placeOf d)) (sealed k volume address P .tag) out ≡ (0, P)
-  pub rebuilds-sealed : (address : ℕ) (d : Side) (P out : List ℕ) → Plain s P → length out ≡ s
-      → rebuildCall k volume address (sideNumber d) (on (sealed k volume address P) (placeOf d)) (sealed k volume address P .tag) out ≡ (0, on (sealed k volume address P) (placeOf (otherSide d)))
+  -- the two sides of a sealed sector combine to the plaintext
   pub combines-sealed : (address : ℕ) (P out : List ℕ) → Plain s P → length out ≡ s
       → combineCall (sealed k volume address P .local) (sealed k volume address P .remote) out ≡ (0, P)
   -- behind the calls, for every tweak: the verdict worked out is the one that fitting means; what is opened is what fits; at most one
@@ -70,9 +60,25 @@ pub record Demand2 (k : Key) (volume s : ℕ) : Type 0 where
   pub one-for-two : (T : ℕ) (t : Triple) (p q : Place) → (p ≡ q → ⊥) → (P Q : List ℕ) → Plain s P → Plain s Q
       → Fits (scheme k) T t p P → Fits (scheme k) T t q P → Fits (scheme k) T t p Q → Fits (scheme k) T t q Q → P ≡ Q
 
--- under every key and size that a call accepts, and every number
+-- of every key that they accept
+pub record Demand2 (k : Key) (volume s : ℕ) : Type 0 where
+  -- sealing equals the mode, whatever the three outputs held
+  pub seals : (address : ℕ) (P : List ℕ) (out : Triple) → Plain s P → ((p : Place) → length (on out p) ≡ wide s p)
+      → sealCall k volume address P out ≡ (0, sealed k volume address P)
+  -- for all bytes in sectors and tags of these lengths, whatever the output held: judging, opening and rebuilding answer what is meant
+  pub judges : (address : ℕ) (t : Triple) (out : List ℕ) → Sector s t → length out ≡ s → Judges k volume s address t out
+  pub opens : (address : ℕ) (d : Side) (x g out : List ℕ) → Plain s x → Plain 16 g → length out ≡ s → Opens k volume s address d x g out
+  pub rebuilds : (address : ℕ) (d : Side) (x g out : List ℕ) → Plain s x → Plain 16 g → length out ≡ s → Rebuilds k volume s address d x g out
+  -- of a sealed sector: it judges whole; either side and the tag open to the plaintext and rebuild the other side
+  pub judges-sealed : (address : ℕ) (P out : List ℕ) → Plain s P → length out ≡ s → judgeCall k volume address (sealed k volume address P) out ≡ (0, P)
+  pub opens-sealed : (address : ℕ) (d : Side) (P out : List ℕ) → Plain s P → length out ≡ s
+      → openCall k volume address (sideNumber d) (on (sealed k volume address P) (placeOf d)) (sealed k volume address P .tag) out ≡ (0, P)
+  pub rebuilds-sealed : (address : ℕ) (d : Side) (P out : List ℕ) → Plain s P → length out ≡ s
+      → rebuildCall k volume address (sideNumber d) (on (sealed k volume address P) (placeOf d)) (sealed k volume address P .tag) out ≡ (0, on (sealed k volume address P) (placeOf (otherSide d)))
+
+-- under every key of 32 bytes, every sector size and every number
 abbrev pub Demand2-whole : Type 0
-Demand2-whole = (k : Key) (volume s : ℕ) → isKey k ≡ true → isSize s ≡ true → Demand2 k volume s
+Demand2-whole = (k : Key) (volume s : ℕ) → isKey k ≡ true → isSize s ≡ true → EveryKey k volume s × (isZeroHash k ≡ false → Demand2 k volume s)
 
 -- document 01's examples at the bounds: sizes 15 and 4,112 are refused, 16 and 4,096 pass
 pub record SizeBounds : Type 0 where

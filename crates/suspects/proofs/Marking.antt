@@ -166,10 +166,10 @@ quiet-keeps c k q = refusing-marks c k (q .0) ∙ go c
     go mend = q .1
     go (read o) = q .1
 
--- 1, 2, 8, 13 and 9
+-- 1, 14, 2, 8, 13 and 9
 before-quiet : (v : Triple) (a : Args) (m : List ℕ) → Every Quiet (firstRules v a m)
 unfolding isFinished lostOrClashing
-before-quiet v a m = ((refl, refl), ((refl, refl), ((refl, refl), ((refl, refl), ((refl, refl), tt)))))
+before-quiet v a m = ((refl, refl), ((refl, refl), ((refl, refl), ((refl, refl), ((refl, refl), ((refl, refl), tt))))))
 
 -- 3
 lengths-quiet : (a : Args) (c : Call) → Every Quiet (lengths a c)

@@ -124,7 +124,7 @@ module _ (a : Args) where
     open-after : (w : Triple) → Images s (a .volume .count) w → (k : List ℕ) → length k ≡ length m → Open w k
     open-after w I k e = record {
       bytes = any-bytes s (a .volume .count) w I;
-      common = record { key = o .common .key; size = o .common .size; shape = same-shape w I };
+      common = record { key = o .common .key; hash = o .common .hash; size = o .common .size; shape = same-shape w I };
       number = o .number;
       words = e ∙ o .words;
     }

@@ -115,7 +115,7 @@ module _ (vol : Volume) (accepted : AcceptedVolume vol) (i : ℕ) (lt : i < vol 
 
   module _ (v : Triple) (I : Images (vol .size) (vol .count) v) where
     checked : Common v vol
-    checked = record { key = accepted .key; size = accepted .size; shape = images-shape (vol .size) (vol .count) v (accepted .least) (accepted .most) I }
+    checked = record { key = accepted .key; hash = accepted .hash; size = accepted .size; shape = images-shape (vol .size) (vol .count) v (accepted .least) (accepted .most) I }
 
     passes : WritePasses v here P m
     passes =
