@@ -2,9 +2,9 @@
 use mathlib.Core.Path.{_≡_, refl, sym, ap, ap₂, _∙_, subst}
 use mathlib.Core.Logic.{_⊎_, inl, inr}
 use Prim.Native.Nat.{ℕ, zero, suc, _+_, _-_, _*_, _/_, _%_, _^_, _≤_, _<_}
-use native.Mathlib.Nat.{div-lt-iff-lt-mul, div-add-mod', mod-eq-of-lt, suc-add, div-one, not-suc-le-zero, le-of-suc-le-suc, eq-or-lt-of-le, div-div-eq-div-mul, mul-add-div-right, mul-add-mod-self-right, zero-add, add-zero, mul-one, add-assoc, mul-assoc, add-mul, pow-suc, mul-comm, lt-of-lt-of-le, mod-lt, pow-le-pow-right}
+use native.Mathlib.Nat.{div-lt-iff-lt-mul, div-add-mod', mod-eq-of-lt, suc-add, div-one, not-suc-le-zero, le-of-suc-le-suc, eq-or-lt-of-le, div-div-eq-div-mul, mul-add-div-right, mul-add-mod-self-right, zero-add, add-zero, mul-one, add-assoc, mul-assoc, add-mul, pow-suc, mul-comm, lt-of-lt-of-le, mod-lt, one-le-pow, pow-le-pow-right, suc-mul}
 use mathlib.Core.List.{List, [], _∷_, _++_, append-assoc, append-nil}
-use lib.ListN.{length, take, drop, getD, length-drop, length-append, List·getD-append}
+use lib.ListN.{length, take, drop, getD, replicate, length-drop, length-append, List·getD-append}
 use lib.Pow.{shr-shr, high}
 use lib.Arith.{digits-lt, digits-div}
 use lib.Seq.{getD-at, take-at, drop-at, take-suc, getD-drop, take-add, drop-drop, length-take-le}
@@ -125,6 +125,24 @@ store-two d s t at m n p q h =
     (take-at (take at d ++ s) (drop (at + m) d) (at + m) len)
     (sym (drop-drop n (at + m) (take at d ++ s ++ drop (at + m) d)) ∙ ap (drop n) (drop-at (take at d ++ s) (drop (at + m) d) (at + m) len) ∙ drop-drop n (at + m) d)
     ∙ ap (λ (x : List ℕ). x ++ drop (at + m + n) d) (append-assoc (take at d) s t)
+
+-- ---- only zeros have the number zero
+
+pub zeros-number : (n : ℕ) → fromBytes (replicate n 0) ≡ 0
+unfolding fromBytes number
+zeros-number zero = refl
+zeros-number (suc n) = zeros-number n
+
+zero-digit : (x q m : ℕ) → 0 < q → x * q + m ≡ 0 → x ≡ 0
+zero-digit zero q m p e = refl
+zero-digit (suc x) q m p e = absurd (omega (arith, suc-mul x q))
+
+pub number-zeros : (xs : List ℕ) → fromBytes xs ≡ 0 → xs ≡ replicate (length xs) 0
+unfolding fromBytes number
+number-zeros [] e = refl
+number-zeros (x ∷ xs) e =
+    let s : x * 256 ^ length xs + number 0 xs ≡ 0 = sym (number-scale x xs) ∙ ap (λ (d : ℕ). number d xs) (sym (zero-add x)) ∙ e in
+    ap₂ (λ (y : ℕ) (ys : List ℕ). y ∷ ys) (zero-digit x (256 ^ length xs) (number 0 xs) (one-le-pow (length xs) 256 (lit< tt)) s) (number-zeros xs (omega arith))
 
 -- ---- there and back
 

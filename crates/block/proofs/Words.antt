@@ -6,7 +6,7 @@ use native.Mathlib.Nat.{mod-lt, mod-eq-of-lt, lt-of-le-of-lt, zero-add, add-zero
 use native.Mathlib.Omega.{arith}
 use lib.Dec.{eqb, lit<, lit≤}
 use lib.Pow.{high, low, pow-pos, pow-add, mod-pow-add, shl-shr, shr-shr, shr-lt}
-use lib.Bits.{bitXor, bitOr, bitAnd, xor-block, xor-zero-r, or-shifted, and-comm, and-mask, and-le-r}
+use lib.Bits.{bitXor, bitOr, bitAnd, xor-block, xor-zero-r, or-shifted, or-add-and, or-zero-l, and-comm, and-mask, and-le-l, and-le-r}
 use borrow.Author.Tests.{eqb-true, eqb-false, eq-eqb, ne-eqb}
 use Rattle.block.specs.Field.{times, double}
 
@@ -120,3 +120,17 @@ words-equal h k l m e = go (eqb l m) refl
 
 pub words-differ : (h k l m : ℕ) → l < 2 ^ 64 → m < 2 ^ 64 → (h ≡ k → ⊥) → false ≡ eqb (h * 2 ^ 64 + l) (k * 2 ^ 64 + m)
 words-differ h k l m p q n = sym (ne-eqb (h * 2 ^ 64 + l) (k * 2 ^ 64 + m) (λ e. n (omega arith)))
+
+-- ---- a block is zero exactly if its words are, which their or tells
+
+pub both-zero : (h l : ℕ) → bitOr h l ≡ 0 → h * 2 ^ 64 + l ≡ 0
+both-zero h l e =
+    let a : h ≡ 0 = omega (arith, or-add-and h l, and-le-r h l) in
+    let b : l ≡ 0 = omega (arith, or-add-and h l, and-le-l h l) in
+    ap₂ (λ (x y : ℕ). x * 2 ^ 64 + y) a b
+
+pub not-both-zero : (h l : ℕ) → (bitOr h l ≡ 0 → ⊥) → h * 2 ^ 64 + l ≡ 0 → ⊥
+not-both-zero h l n e =
+    let a : h ≡ 0 = omega arith in
+    let b : l ≡ 0 = omega arith in
+    n (ap (λ (x : ℕ). bitOr x l) a ∙ or-zero-l l ∙ b)

@@ -1,3 +1,4 @@
 pub mod Numbers
 pub mod SurveyNumbers
 pub mod Sectors
+pub mod ZeroHash

@@ -1,3 +1,4 @@
 pub mod Survey
 pub mod Version
 pub mod Sectors
+pub mod ZeroHash

@@ -10,7 +10,7 @@ use lib.Bits.{bitXor, xor-comm, xor-lt}
 use Rattle.block.specs.Bytes.{Plain, number, fromBytes, toBytes, blocksOf, xorBytes}
 use Rattle.block.specs.Field.{double, mul, x⁻¹, 1⊕x⁻¹}
 use Rattle.block.proofs.Bits.{xor-assoc, xor-cancel}
-use Rattle.block.proofs.Field.{mul-lt, mul-two-l, mul-three-l, x-inverse, x⁻¹-inverse, 1⊕x-inverse, 1⊕x⁻¹-inverse}
+use Rattle.block.proofs.Field.{mul-lt, mul-zero-l, mul-two-l, mul-three-l, x-inverse, x⁻¹-inverse, 1⊕x-inverse, 1⊕x⁻¹-inverse}
 use Rattle.block.proofs.Lists.{xor-bytes-comm, xor-bytes-cancel}
 use Rattle.block.proofs.Numbers.{number-append, from-to, bytes-toBytes, length-toBytes, number-scale}
 use Rattle.hash.specs.Brw.{brw}
@@ -195,3 +195,10 @@ tweak-is volume address hv ha =
     ∙ number-scale (number 0 (toBytes 8 volume)) (toBytes 8 address)
     ∙ ap (λ (k : ℕ). number 0 (toBytes 8 volume) * 256 ^ k + number 0 (toBytes 8 address)) (length-toBytes 8 address)
     ∙ ap₂ (λ (v a : ℕ). v * 2 ^ 64 + a) (from-to 8 volume hv) (from-to 8 address ha))
+
+-- a hash key of zero leaves the tag without plaintext and tweak
+pub zero-tag : (E : ℕ → ℕ) (h T : ℕ) (P : List ℕ) → h ≡ 0 → tagBlock E h T P ≡ E (bitXor 0 (E 0))
+unfolding tagBlock
+zero-tag E h T P e =
+    let b : ℕ = brw h (blocksOf P ++ (T ∷ [])) in
+    ap (λ (x : ℕ). E (bitXor x (E 0))) (ap (λ (g : ℕ). mul g b) e ∙ mul-zero-l b)

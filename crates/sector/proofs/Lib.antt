@@ -4,3 +4,4 @@ pub mod Opening
 pub mod Marked
 pub mod Demand2
 pub mod Before
+pub mod KeyRefused

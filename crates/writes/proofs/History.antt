@@ -193,13 +193,16 @@ module _ (vol : Volume) where
         go none e = events-allowed a P (z .1) (z .0 e) (writeCalls v a P m) (calls-writing v a P m) f (z .2) (v, m)
         go (some k) e = subst (AllLentAllowed vol v) (sym (refused-events f k e)) (lone-allowed a (read (length P)) v m k e tt f (z .2))
 
+    pub write-refused : (f : WriteFate) (k : ℕ) → firstOf (callOrder v a (read (length P)) m) ≡ some k → (h : State) → heldAfter vol v h a P m f ≡ h
+    write-refused f k e h = ap (holdLent vol v h) (refused-events f k e) ∙ lone-held a (read (length P)) v m k e f h
+
     write-keeps : Images (vol .size) (vol .count) v → (h : State) (f : WriteFate) → LaptopAllowed vol v (write a P m f)
         → PromisedLent vol (laptopLeaves vol v (write a P m f)) (heldAfter vol v h a P m f) → WriteKeeps vol v h a P m f
     write-keeps I h f z after = record {
       old-or-new = λ Q d e. events-keep a Q P (writeCalls v a P m) (calls-writing v a P m) f (v, m) h (d, inl e);
       refused = λ k e. (
         sym (write-leads f) ∙ ap (runLent vol v) (refused-events f k e) ∙ lone-leaves a (read (length P)) v m k e f,
-        ap (holdLent vol v h) (refused-events f k e) ∙ lone-held a (read (length P)) v m k e f h,
+        write-refused f k e h,
       );
       others = λ j n. (
         ap (λ (u : Triple). at vol u j) (sym (write-leads f)) ∙ other-bytes a (writeCalls v a P m) f (v, m) I (write-allowed f z) j n,

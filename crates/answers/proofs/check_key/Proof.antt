@@ -2,10 +2,10 @@ use mathlib.Core.Path.{_≡_, sym, _∙_}
 use borrow.Author.Needs.{needs}
 use borrow.Author.Tests.{eq-eqb, ne-eqb}
 use Rattle.block.specs.Value.{value}
+use Rattle.block.proofs.Words.{both-zero, not-both-zero}
 use Rattle.mode.specs.Scheme.{isKey}
 use Rattle.mode.specs.Sealing.{keyFrom, hashKey}
 use Rattle.answers.specs.Rules.{isZeroHash}
-use Rattle.answers.proofs.Keys.{both-zero, not-both}
 use Rattle.answers.proofs.check_key.Statement.{statement}
 use Rattle.answers.proofs.check_key.Tie as tie
 
@@ -29,7 +29,7 @@ unfolding isKey isZeroHash hashKey value
 returns-3 c =
     let l = c .before .before in
     let h = l .load .result in
-    let other : hashKey (keyFrom (l .before .before .before .args .key .now)) ≡ 0 → ⊥ = λ e. not-both (h .hi) (h .lo) (c .if2 .left) (l .load .ensures ∙ e) in
+    let other : hashKey (keyFrom (l .before .before .before .args .key .now)) ≡ 0 → ⊥ = λ e. not-both-zero (h .hi) (h .lo) (c .if2 .left) (l .load .ensures ∙ e) in
     simp (eq-eqb _ 32 (l .before .if1 .left), ne-eqb _ 0 other)
 
 pub check-key-spec : {M : Type 1} → statement M
