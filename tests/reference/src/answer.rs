@@ -44,10 +44,11 @@ pub enum Refusal {
     ShortList,
     BadFrame,
     MapLength,
+    ZeroHashKey,
 }
 
 impl Refusal {
-    /// The refusal's number, 1 to 13.
+    /// The refusal's number, 1 to 14.
     pub fn number(self) -> u8 {
         match self {
             Refusal::KeyLength => 1,
@@ -63,6 +64,7 @@ impl Refusal {
             Refusal::ShortList => 11,
             Refusal::BadFrame => 12,
             Refusal::MapLength => 13,
+            Refusal::ZeroHashKey => 14,
         }
     }
 }

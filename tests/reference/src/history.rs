@@ -12,8 +12,8 @@ mod on_write;
 use std::collections::BTreeMap;
 
 use crate::answer::{Place, Refusal, Verdict};
-use crate::collide::blind_pair;
-use crate::field::{to_block, to_bytes};
+use crate::collide::{blind_pair, steer};
+use crate::field::{to_block, to_bytes, Block};
 use crate::machine::{Call, Ending, Event, Machine, Sector};
 use crate::rng::Rng;
 use crate::seal::{sealed, Sealed};
@@ -36,6 +36,13 @@ pub struct Given {
     pub volume: u64,
     pub size: usize,
     pub count: usize,
+}
+
+impl Given {
+    /// Whether the key has 32 bytes and the first 16 are zero.
+    fn has_zero_h(&self) -> bool {
+        self.key.len() == 32 && self.key.starts_with(&[0; 16])
+    }
 }
 
 #[derive(Clone, Debug, PartialEq, Eq)]
@@ -265,9 +272,14 @@ struct History<'a> {
 }
 
 impl<'a> History<'a> {
-    fn new(calls: &'a dyn Calls, mut rng: Rng, given: Given, tally: &'a mut Tally) -> Self {
+    fn new(
+        calls: &'a dyn Calls,
+        mut rng: Rng,
+        given: Given,
+        pool: Vec<Vec<u8>>,
+        tally: &'a mut Tally,
+    ) -> Self {
         let Given { size, count, .. } = given;
-        let pool = make_pool(&mut rng, &given.key, size);
         let images = Images {
             local: rng.bytes(count * size),
             tag: rng.bytes(count * 16),
@@ -302,7 +314,12 @@ impl<'a> History<'a> {
         if self.rng.chance(10) {
             self.call_on_map();
         }
+        let before = self.given.has_zero_h().then(|| self.images.clone());
         let number = self.event();
+        if before.is_some_and(|images| images != self.images) {
+            let by_another = self.damaged.is_some() || self.stretch == Stretch::AnyWriter;
+            assert!(by_another, "a call under an h of zero wrote");
+        }
         self.check_map();
         if self.stretch != Stretch::AnyWriter {
             for number in self.looked_at(number) {
@@ -441,7 +458,7 @@ impl<'a> History<'a> {
 
     /// Gives the call something that is not the volume's.
     fn spoil(&mut self, request: &mut Request) {
-        match self.rng.below(18) {
+        match self.rng.below(20) {
             0 => request.given.key = self.rng.bytes(31),
             1 => request.given.key = self.rng.bytes(32),
             2 => request.given.size += 1,
@@ -454,6 +471,7 @@ impl<'a> History<'a> {
                 request.output += 1;
             }
             8..=10 => request.words = self.wrong_words(),
+            11..=12 => request.given.key[..16].fill(0),
             // Most often, since only the verdict can refuse it.
             _ => request.given.volume = self.other_volume(),
         }
@@ -572,8 +590,12 @@ impl<'a> History<'a> {
 
     /// The answer is this package's. The machine would not notice a call that
     /// takes one number for another: what it refuses changes nothing, and what
-    /// it accepts under another number is left out.
+    /// it accepts under another number is left out. Exactly a key of 32 bytes whose
+    /// h is zero is refused for that, whatever else is wrong.
     fn insist_on_answer(&self, request: &Request, answer: Answer) {
+        let is_refused = answer == Err(Refusal::ZeroHashKey);
+        let has_zero_h = request.given.has_zero_h();
+        assert_eq!(is_refused, has_zero_h, "an h of zero in {:?}", request.kind);
         let mut output = vec![FILL; request.output];
         let (mut images, mut map) = (self.images.clone(), self.lent(request.words));
         let due = Reference.run(request, &mut images, &mut map, &mut output);
@@ -655,7 +677,7 @@ impl<'a> History<'a> {
     fn damaged_bytes(&mut self, number: usize, place: Place) -> Vec<u8> {
         let size = self.given.size;
         let mut bytes = self.images.place(size, number, place).to_vec();
-        match self.rng.below(7) {
+        match self.rng.below(8) {
             0 => self.rng.fill(&mut bytes),
             1 => bytes.fill(0),
             2 => {
@@ -671,6 +693,8 @@ impl<'a> History<'a> {
                 let plaintext = self.rng.pick(&self.pool).clone();
                 bytes = self.sealed(number, &plaintext).place(place).to_vec();
             }
+            // Of a plaintext that begins with h this is another of the same tag.
+            6 if bytes.len() >= 32 => self.rng.fill(&mut bytes[16..32]),
             _ => {
                 let (key, other) = (self.given.key.clone(), self.other_volume());
                 let plaintext = self.rng.pick(&self.pool);
@@ -757,6 +781,7 @@ impl<'a> History<'a> {
     fn check(&mut self, number: usize) {
         match self.machine.sector(number).clone() {
             Sector::Gone => self.tally.add("seen gone"),
+            Sector::Kept { .. } if self.given.has_zero_h() => panic!("kept under an h of zero"),
             Sector::Kept {
                 plaintext,
                 doubt: None,
@@ -839,13 +864,18 @@ impl<'a> History<'a> {
     }
 
     /// The survey says of all sectors what reads say of each, and lists them in
-    /// repair order.
+    /// repair order. Under an h of zero it is refused, as they are.
     fn check_survey(&mut self) {
         let count = self.given.count;
         let mut list = vec![u32::MAX; count];
         let found = self
             .calls
             .survey(&self.given, &self.images, &self.map, &mut list);
+        if self.given.has_zero_h() {
+            assert_eq!(found, Err(Refusal::ZeroHashKey));
+            assert_eq!(list, vec![u32::MAX; count], "a refused survey wrote");
+            return;
+        }
         let found = found.expect("the volume's own shape");
         let urgencies: Vec<_> = (0..count)
             .map(|number| urgency(self.read(&self.images, number)))
@@ -919,60 +949,119 @@ fn draw_volume(rng: &mut Rng, tally: &mut Tally) -> u64 {
     volume
 }
 
-/// Zeros, random plaintexts, and from two blocks on pairs of equal tags.
-fn make_pool(rng: &mut Rng, key: &[u8], size: usize) -> Vec<Vec<u8>> {
-    let mut pool = vec![vec![0; size], vec![0xff; size]];
-    for _ in 0..2 {
-        pool.push(rng.bytes(size));
-    }
-    if size >= 32 {
-        let rest = vec![0; size / 16];
-        let (one, other) = blind_pair(to_block(&key[..16]), &rest, 1);
-        pool.push(to_bytes(&one));
-        pool.push(to_bytes(&other));
-    }
-    pool
+/// What the keys and plaintexts of a history are.
+#[derive(Clone, Copy, PartialEq, Eq)]
+enum Draw {
+    /// Any key, and some plaintexts of equal tags where there are two blocks.
+    Any,
+    /// Any key, and most plaintexts of two tags, so that clashes abound. Takes two
+    /// blocks.
+    TwoTags,
+    /// A key whose h is zero, which every call refuses.
+    ZeroH,
 }
 
+impl Draw {
+    fn key(self, rng: &mut Rng) -> Vec<u8> {
+        let mut key = rng.bytes(32);
+        if self == Draw::ZeroH {
+            key[..16].fill(0);
+        }
+        key
+    }
+
+    /// Plaintexts to choose from: zeros, ones, random ones, and from two blocks on a
+    /// pair of equal tags. Or zeros and others of their tag, and more of another.
+    fn pool(self, rng: &mut Rng, key: &[u8], size: usize) -> Vec<Vec<u8>> {
+        let (h, zeros) = (to_block(&key[..16]), vec![0; size / 16]);
+        let mut pool = vec![vec![0; size]];
+        if self == Draw::TwoTags {
+            for _ in 0..8 {
+                pool.push(to_bytes(&of_the_tag_of_zeros(rng, h, &zeros)));
+            }
+            for _ in 0..3 {
+                let (_, blind) = blind_pair(h, &zeros, rng.next_u128());
+                pool.push(to_bytes(&blind));
+            }
+            return pool;
+        }
+        pool.push(vec![0xff; size]);
+        for _ in 0..2 {
+            pool.push(rng.bytes(size));
+        }
+        if size >= 32 {
+            let (one, other) = blind_pair(h, &zeros, 1);
+            pool.push(to_bytes(&one));
+            pool.push(to_bytes(&other));
+        }
+        pool
+    }
+}
+
+/// A plaintext whose tag is that of zeros wherever it is: the two differ in the
+/// first two blocks alone, whose part of the hash the tweak does not enter.
+fn of_the_tag_of_zeros(rng: &mut Rng, h: Block, zeros: &[Block]) -> Vec<Block> {
+    let mut other = zeros.to_vec();
+    other[0] = rng.next_u128();
+    steer(h, 0, 0, zeros, &other).expect("a random block 1 is not h")
+}
+
+/// In front of what was seen in histories under an h of zero.
+pub const UNDER_ZERO_H: &str = "under h zero: ";
+
 /// Runs histories of `events` events on each of several volumes for each seed,
-/// each under a number of its own, with keys of any h and of h zero, where all
-/// plaintexts share a tag and clashes abound. Gives how often each thing was
-/// seen.
+/// each under a number of its own: with any plaintexts, with most of two tags, and
+/// shorter ones under an h of zero. Gives how often each thing was seen.
 pub fn run_histories(
     calls: &dyn Calls,
     seeds: std::ops::Range<u64>,
     volumes: &[(usize, usize)],
     events: usize,
 ) -> Tally {
-    let mut tally = Tally::default();
+    let (mut tally, mut of_zero_h) = (Tally::default(), Tally::default());
     for seed in seeds {
         for &(size, count) in volumes {
-            for h_is_zero in [false, true] {
-                let shape = (size + 3 * count) as u64;
-                let mut rng = Rng::new(1000 * seed + shape + u64::from(h_is_zero));
-                let mut key = rng.bytes(32);
-                if h_is_zero {
-                    key[..16].fill(0);
-                }
-                let given = Given {
-                    key,
-                    volume: draw_volume(&mut rng, &mut tally),
-                    size,
-                    count,
-                };
-                let mut history = History::new(calls, rng, given, &mut tally);
+            let seed = 1000 * seed + (size + 3 * count) as u64;
+            let run = |draw, seed, size, events, tally: &mut Tally| {
+                let mut history = begin(calls, draw, Rng::new(seed), size, count, tally);
                 for _ in 0..events {
                     history.step();
                 }
-            }
+            };
+            run(Draw::Any, seed, size, events, &mut tally);
+            run(Draw::TwoTags, seed + 1, size.max(32), events, &mut tally);
+            run(Draw::ZeroH, seed + 2, size, events / 5, &mut of_zero_h);
         }
+    }
+    for (what, times) in of_zero_h.0 {
+        tally.add_many(&format!("{UNDER_ZERO_H}{what}"), times);
     }
     tally
 }
 
+fn begin<'a>(
+    calls: &'a dyn Calls,
+    draw: Draw,
+    mut rng: Rng,
+    size: usize,
+    count: usize,
+    tally: &'a mut Tally,
+) -> History<'a> {
+    let given = Given {
+        key: draw.key(&mut rng),
+        volume: draw_volume(&mut rng, tally),
+        size,
+        count,
+    };
+    let pool = draw.pool(&mut rng, &given.key, size);
+    History::new(calls, rng, given, pool, tally)
+}
+
+const KINDS: [&str; 7] = ["Blank", "First", "Second", "Third", "Mend", "Read", "Write"];
+
 /// A history that never comes to a case has not tested it.
 pub fn insist_on_variety(tally: &Tally) {
-    for kind in ["Blank", "First", "Second", "Third", "Mend", "Read", "Write"] {
+    for kind in KINDS {
         for how in ["finished", "cut", "refused"] {
             assert!(tally.get(&format!("{kind} {how}")) > 0, "{kind} {how}");
         }
@@ -997,4 +1086,29 @@ pub fn insist_on_variety(tally: &Tally) {
     ] {
         assert!(tally.get(what) > 0, "{what}");
     }
+    let [clashing, events] = ["seen clashing", "events"].map(|what| tally.get(what));
+    assert!(
+        10 * clashing > events,
+        "few clashes: {clashing} in {events}"
+    );
+}
+
+/// Under an h of zero every call of the volume's own came, was refused, also where
+/// it would have been cut, and nothing was ever kept.
+pub fn insist_on_zero_h(tally: &Tally) {
+    let get = |what: &str| tally.get(&format!("{UNDER_ZERO_H}{what}"));
+    for kind in KINDS {
+        for what in ["refused", "answers 0e", "0e leaves a set bit"] {
+            let what = format!("{kind} {what}");
+            assert!(get(&what) > 0, "{what}");
+        }
+        for how in ["finished", "cut"] {
+            assert_eq!(get(&format!("{kind} {how}")), 0, "{kind} {how}");
+        }
+    }
+    for what in ["seen gone", "Damage", "Survey answers 0e"] {
+        assert!(get(what) > 0, "{what}");
+    }
+    assert_eq!(get("beside any writer, its own call finished"), 0);
+    assert_eq!(get("Survey answers 00"), 0);
 }

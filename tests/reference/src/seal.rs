@@ -7,8 +7,8 @@ use crate::aes::Aes128;
 use crate::answer::{Place, Refusal, Verdict};
 use crate::brw::brw;
 use crate::field::{
-    double, over_one_plus_x, over_x, product, times_one_plus_x, to_block, to_blocks, write_blocks,
-    Block, BLOCK_BYTES,
+    double, over_one_plus_x, over_x, product, times_one_plus_x, to_block, to_blocks, to_bytes,
+    write_blocks, Block, BLOCK_BYTES,
 };
 
 /// Bytes in a key: h, then the AES key.
@@ -57,7 +57,8 @@ impl Triple {
     }
 }
 
-/// A key made ready for use.
+/// A key made ready for use. The sealing is defined for every h, zero too, under
+/// which all plaintexts have one tag.
 pub struct Sealer {
     h: Block,
     cipher: Aes128,
@@ -66,17 +67,15 @@ pub struct Sealer {
 }
 
 impl Sealer {
-    /// Splits a key; another length than 32 bytes is refused.
-    pub fn new(key: &[u8]) -> Result<Sealer, Refusal> {
-        let key: &[u8; KEY_BYTES] = key.try_into().map_err(|_| Refusal::KeyLength)?;
+    pub fn new(key: &[u8; KEY_BYTES]) -> Sealer {
         let (h, cipher_key) = key.split_at(BLOCK_BYTES);
         let cipher = Aes128::new(cipher_key.try_into().expect("an AES-128 key has 16 bytes"));
-        Ok(Sealer {
+        Sealer {
             h: to_block(h),
             alpha: cipher.encrypt(0),
             beta: cipher.encrypt(1),
             cipher,
-        })
+        }
     }
 
     /// The tag of a plaintext at an address of a volume.
@@ -203,6 +202,17 @@ pub fn remote_block(pad: Block, plaintext: Block) -> Block {
     pad ^ double(plaintext)
 }
 
+/// Refusals 1 and 14, with which every call that takes a key begins: a key that is
+/// not 32 bytes, and one whose h is all zero.
+pub(crate) fn check_key(key: &[u8]) -> Result<Sealer, Refusal> {
+    let key = key.try_into().map_err(|_| Refusal::KeyLength)?;
+    let sealer = Sealer::new(key);
+    if sealer.h == 0 {
+        return Err(Refusal::ZeroHashKey);
+    }
+    Ok(sealer)
+}
+
 /// Refuses what is not a multiple of 16 from 16 to 4,096.
 pub fn check_sector_size(size: usize) -> Result<(), Refusal> {
     let whole_blocks = size / BLOCK_BYTES * BLOCK_BYTES;
@@ -223,7 +233,7 @@ pub fn seal(
     remote: &mut [u8],
     tag: &mut [u8],
 ) -> Result<(), Refusal> {
-    let sealer = Sealer::new(key)?;
+    let sealer = check_key(key)?;
     check_sector_size(plaintext.len())?;
     check_length(local, plaintext.len())?;
     check_length(remote, plaintext.len())?;
@@ -245,7 +255,7 @@ pub fn judge(
     remote: &[u8],
     output: &mut [u8],
 ) -> Result<Verdict, Refusal> {
-    let sealer = Sealer::new(key)?;
+    let sealer = check_key(key)?;
     check_sector_size(local.len())?;
     check_length(remote, local.len())?;
     check_length(output, local.len())?;
@@ -311,7 +321,7 @@ fn open_checked(
     tag: &[u8],
     output_bytes: usize,
 ) -> Result<(Side, Vec<Block>, Triple), Refusal> {
-    let sealer = Sealer::new(key)?;
+    let sealer = check_key(key)?;
     check_sector_size(sector.len())?;
     check_length(tag, TAG_BYTES)?;
     if output_bytes != sector.len() {
@@ -373,15 +383,16 @@ impl Sealed {
     }
 }
 
-/// Seals a plaintext under a key, both of which must pass.
+/// Seals a plaintext under a key, whose lengths must be right. The call refuses an
+/// h of zero, and this does not: it also gives what earlier releases wrote.
 pub fn sealed(key: &[u8], volume: u64, address: u64, plaintext: &[u8]) -> Sealed {
-    let mut sealed = Sealed {
-        local: vec![0; plaintext.len()],
-        tag: vec![0; TAG_BYTES],
-        remote: vec![0; plaintext.len()],
-    };
-    let Sealed { local, tag, remote } = &mut sealed;
-    let answer = seal(key, volume, address, plaintext, local, remote, tag);
-    assert_eq!(answer, Ok(()));
-    sealed
+    assert_eq!(check_sector_size(plaintext.len()), Ok(()));
+    let key = key.try_into().expect("a key has 32 bytes");
+    let Triple { local, tag, remote } =
+        Sealer::new(key).seal(volume, address, &to_blocks(plaintext));
+    Sealed {
+        local: to_bytes(&local),
+        tag: to_bytes(&[tag]),
+        remote: to_bytes(&remote),
+    }
 }

@@ -13,7 +13,7 @@ use std::ops::Range;
 use crate::answer::{Place, Refusal, Verdict};
 use crate::field::{to_blocks, write_blocks, BLOCK_BYTES};
 use crate::map::{check_words, marked, Kind};
-use crate::seal::{check_length, check_sector_size, Sealer, Triple, TAG_BYTES};
+use crate::seal::{check_key, check_length, check_sector_size, Sealer, Triple, TAG_BYTES};
 
 /// The most sectors that a volume can have.
 pub const MAX_SECTORS: usize = 65_536;
@@ -270,7 +270,7 @@ impl Survey {
     }
 }
 
-/// Refusals 1, 2, 8 and 13.
+/// Refusals 1, 14, 2, 8 and 13.
 fn check_volume(
     key: &[u8],
     size: usize,
@@ -280,7 +280,7 @@ fn check_volume(
     remote: &[u8],
     map: &[u64],
 ) -> Result<Sealer, Refusal> {
-    let sealer = Sealer::new(key)?;
+    let sealer = check_key(key)?;
     check_sector_size(size)?;
     check_count(count)?;
     let fits = local.len() == count * size
@@ -302,7 +302,7 @@ pub(crate) fn check_count(count: usize) -> Result<(), Refusal> {
     }
 }
 
-/// Refusals 1, 2, 8, 13 and 9.
+/// Refusals 1, 14, 2, 8, 13 and 9.
 fn check_sector(
     key: &[u8],
     size: usize,

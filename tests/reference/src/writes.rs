@@ -22,12 +22,16 @@ pub fn insist_on_write(calls: &dyn Calls, volume: &Volume, number: usize, plaint
     assert_eq!(answer, found, "the verdict found");
     insist_on_same(&left, &by_calls, "its calls");
 
-    let is_finished = matches!(answer, 0 | 0x81..=0x83);
     let mut due = volume.clone();
-    if is_finished {
-        due.hold(number, &volume.sealed(number, plaintext));
+    match answer {
+        0 | 0x81..=0x83 => {
+            due.hold(number, &volume.sealed(number, plaintext));
+            due.mark(number, false);
+        }
+        6 | 7 => due.mark(number, true),
+        // Other refusals leave the map alone.
+        _ => {}
     }
-    due.mark(number, !is_finished);
     insist_on_same(&left, &due, "the request says");
     answer
 }
@@ -100,12 +104,13 @@ pub fn try_every_state(calls: &dyn Calls, sizes: &[usize]) {
 /// How often each answer came.
 pub type Answers = BTreeMap<u8, usize>;
 
-/// A write onto a sector in any state, of a volume with a key of any h or of h
-/// zero, where all plaintexts share a tag.
+/// A write onto a sector in any state, of a volume with a key of any h, or of h
+/// zero, where it is refused.
 pub fn try_any_state(calls: &dyn Calls, rng: &mut Rng, size: usize, answers: &mut Answers) {
     let count = 1 + rng.below(3);
     let mut volume = Volume::of_size(rng, size, count);
-    if rng.chance(20) {
+    let has_zero_h = rng.chance(10);
+    if has_zero_h {
         volume.given.key[..16].fill(0);
     }
     volume.given.volume = *rng.pick(&[0, 1, u64::MAX, volume.given.volume]);
@@ -113,10 +118,11 @@ pub fn try_any_state(calls: &dyn Calls, rng: &mut Rng, size: usize, answers: &mu
     let number = rng.below(count);
     let plaintext = put_any_state(rng, &mut volume, number);
     let answer = insist_on_write(calls, &volume, number, &plaintext);
+    assert_eq!(answer == 14, has_zero_h, "an h of zero");
     *answers.entry(answer).or_default() += 1;
 }
 
-/// Puts into each place what is sealed of one of three plaintexts, two of which
+/// Puts into each place what is sealed of one of three plaintexts, some of which
 /// have one tag where that can be, or that with some damage, or anything. Gives
 /// one of the plaintexts, or another.
 fn put_any_state(rng: &mut Rng, volume: &mut Volume, number: usize) -> Vec<u8> {
@@ -143,13 +149,21 @@ fn put_any_state(rng: &mut Rng, volume: &mut Volume, number: usize) -> Vec<u8> {
     rng.pick(&[one, two, three, another]).clone()
 }
 
-/// Three plaintexts, of which the last two have one tag where there are two blocks.
+/// Three plaintexts, of which the last two, or now and then all, have one tag where
+/// there are two blocks.
 fn plaintexts(rng: &mut Rng, key: &[u8], size: usize) -> [Vec<u8>; 3] {
     let [one, two, three] = [(); 3].map(|()| rng.bytes(size));
     if size == 16 {
         return [one, two, three];
     }
     let h = to_block(&key[..16]);
-    let (two, three) = blind_pair(h, &to_blocks(&two), rng.next_u128());
-    [one, to_bytes(&two), to_bytes(&three)]
+    let two = to_blocks(&two);
+    let of_equal_tag = |rng: &mut Rng| to_bytes(&blind_pair(h, &two, rng.next_u128()).1);
+    let three = of_equal_tag(rng);
+    let one = if rng.chance(30) {
+        of_equal_tag(rng)
+    } else {
+        one
+    };
+    [one, of_equal_tag(rng), three]
 }

@@ -53,7 +53,7 @@ fn made_frames_have_every_answer() {
     assert!(output.status.success());
     let answers = String::from_utf8(run(&output.stdout)).expect("digits and line feeds");
     let numbers: BTreeSet<&str> = answers.lines().map(|line| &line[..2]).collect();
-    let due = ["00", "02", "03", "06", "07", "0c", "81", "82", "83"];
+    let due = ["00", "02", "03", "06", "07", "0c", "0e", "81", "82", "83"];
     assert_eq!(numbers, due.into());
 }
 
@@ -82,18 +82,63 @@ fn bad_frames() {
     assert_eq!(run(b"02\0\0"), b"0c\n");
 }
 
+/// With an h of zero, 14 stands in place of what judging says, and behind every
+/// refusal on lengths.
 #[test]
 fn lengths_of_judge_frames() {
-    let frame = |bytes: usize| format!("01{}", "00".repeat(bytes - 1));
-    assert_eq!(answer(&frame(56)), "0c\n");
-    assert_eq!(answer(&frame(57)), "02\n");
-    assert_eq!(answer(&frame(58)), "03\n");
-    assert_eq!(answer(&frame(57 + 30)), "02\n");
-    assert_eq!(answer(&frame(57 + 31)), "03\n");
-    assert_eq!(answer(&frame(57 + 32)), "06\n");
-    assert_eq!(answer(&frame(57 + 34)), "02\n");
-    assert_eq!(answer(&frame(57 + 2 * LARGEST)), "06\n");
-    assert_eq!(answer(&frame(57 + 2 * LARGEST + 1)), "0c\n");
+    for (byte, judged) in [("03", "06\n"), ("00", "0e\n")] {
+        let frame = |bytes: usize| format!("01{}", byte.repeat(bytes - 1));
+        assert_eq!(answer(&frame(33)), "0c\n");
+        assert_eq!(answer(&frame(56)), "0c\n");
+        assert_eq!(answer(&frame(57)), "02\n");
+        assert_eq!(answer(&frame(58)), "03\n");
+        assert_eq!(answer(&frame(57 + 30)), "02\n");
+        assert_eq!(answer(&frame(57 + 31)), "03\n");
+        assert_eq!(answer(&frame(57 + 32)), judged);
+        assert_eq!(answer(&frame(57 + 34)), "02\n");
+        assert_eq!(answer(&frame(57 + 2 * LARGEST)), judged);
+        assert_eq!(answer(&frame(57 + 2 * LARGEST + 1)), "0c\n");
+    }
+}
+
+/// Whatever the sector is under a key with an h of zero.
+#[test]
+fn zero_h() {
+    let mut rng = Rng::new(22);
+    for size in [16, 32, 48, LARGEST] {
+        for k in [rng.bytes(16), vec![0; 16]] {
+            let (key, address) = ([vec![0; 16], k].concat(), rng.next_u64());
+            let whole = sealed(&key, 0, address, &rng.bytes(size));
+            let mut doubtful = whole.clone();
+            doubtful.tag[3] ^= 1;
+            let mut clashing = whole.clone();
+            rng.fill(&mut clashing.remote);
+            let mut lost = clashing.clone();
+            lost.tag[0] ^= 1;
+            for held in [whole, doubtful, clashing, lost] {
+                let frame = judge_frame(&key, address, &held);
+                assert_eq!(answer(&frame), "0e\n");
+                assert_eq!(answer(&frame.to_uppercase()), "0e\n");
+                assert_eq!(answer(&frame[1..]), "0c\n");
+                assert_eq!(answer(&frame.replace("00", "0g")), "0c\n");
+            }
+        }
+    }
+}
+
+#[test]
+fn one_bit_of_h_is_enough() {
+    let mut rng = Rng::new(23);
+    for bit in 0..128 {
+        let h = 1u128 << bit;
+        for k in [rng.bytes(16), vec![0; 16]] {
+            let (key, address) = ([h.to_be_bytes().to_vec(), k].concat(), rng.next_u64());
+            let plaintext = rng.bytes(32);
+            let held = sealed(&key, 0, address, &plaintext);
+            let due = format!("00{}\n", hex::encode(&plaintext));
+            assert_eq!(answer(&judge_frame(&key, address, &held)), due);
+        }
+    }
 }
 
 #[test]

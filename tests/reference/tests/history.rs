@@ -5,8 +5,19 @@ use std::panic::{catch_unwind, AssertUnwindSafe};
 
 use reference::answer::{answer_number, Refusal, Verdict};
 use reference::history::{insist_on_marks, insist_on_variety, insist_on_words, insist_on_writes};
-use reference::history::{run_histories, Answer, Calls, Given, Images, Kind, Reference, Request};
+use reference::history::{insist_on_zero_h, run_histories};
+use reference::history::{Answer, Calls, Given, Images, Kind, Reference, Request};
 use reference::volume::Survey;
+
+const KINDS: [Kind; 7] = [
+    Kind::Blank,
+    Kind::First,
+    Kind::Second,
+    Kind::Third,
+    Kind::Mend,
+    Kind::Read,
+    Kind::Write,
+];
 
 #[test]
 fn histories_keep_what_the_machine_keeps() {
@@ -18,6 +29,7 @@ fn histories_keep_what_the_machine_keeps() {
     insist_on_variety(&tally);
     insist_on_marks(&tally);
     insist_on_writes(&tally);
+    insist_on_zero_h(&tally);
     for what in ["number 0", "number 1", "largest number", "any number"] {
         assert!(tally.get(&format!("history under {what}")) > 0, "{what}");
     }
@@ -98,18 +110,91 @@ fn histories_notice_a_deaf_call() {
         |volume| volume & !0xffff_ffff,
     ];
     for heard in heard {
-        for kind in [
-            Some(Kind::Blank),
-            Some(Kind::First),
-            Some(Kind::Second),
-            Some(Kind::Third),
-            Some(Kind::Mend),
-            Some(Kind::Read),
-            Some(Kind::Write),
-            None,
-        ] {
+        for kind in KINDS.into_iter().map(Some).chain([None]) {
             let deaf = Deaf { kind, heard };
             let run = || run_histories(&deaf, 0..4, &[(16, 3), (32, 2)], 300);
+            let passed = catch_unwind(AssertUnwindSafe(run)).is_ok();
+            assert!(!passed, "{kind:?}");
+        }
+    }
+}
+
+/// This package's calls, but the one of this kind, or the survey where there is no
+/// kind, looks at h too late or never.
+struct Lax {
+    kind: Option<Kind>,
+    looks_late: bool,
+}
+
+impl Lax {
+    /// The same with another h where it is zero.
+    fn given(given: &Given) -> Option<Given> {
+        let has_zero_h = given.key.len() == 32 && given.key[..16] == [0; 16];
+        let key = [vec![1; 16], given.key[16..].to_vec()].concat();
+        has_zero_h.then(|| Given {
+            key,
+            ..given.clone()
+        })
+    }
+}
+
+impl Calls for Lax {
+    fn run(
+        &self,
+        request: &Request,
+        images: &mut Images,
+        map: &mut [u64],
+        output: &mut [u8],
+    ) -> Answer {
+        let given = match Lax::given(&request.given) {
+            Some(given) if self.kind == Some(request.kind) => given,
+            _ => return Reference.run(request, images, map, output),
+        };
+        let request = Request {
+            given,
+            ..request.clone()
+        };
+        if self.looks_late {
+            let (mut images, mut map) = (images.clone(), map.to_vec());
+            let answer = Reference.run(&request, &mut images, &mut map, &mut output.to_vec());
+            return answer.and(Err(Refusal::ZeroHashKey));
+        }
+        Reference.run(&request, images, map, output)
+    }
+
+    fn survey(
+        &self,
+        given: &Given,
+        images: &Images,
+        map: &[u64],
+        list: &mut [u32],
+    ) -> Result<Survey, Refusal> {
+        let given = match Lax::given(given) {
+            Some(given) if self.kind.is_none() => given,
+            _ => return Reference.survey(given, images, map, list),
+        };
+        if self.looks_late {
+            let answer = Reference.survey(&given, images, map, &mut list.to_vec());
+            return answer.and(Err(Refusal::ZeroHashKey));
+        }
+        Reference.survey(&given, images, map, list)
+    }
+
+    fn start_map(&self, count: usize, map: &mut [u64]) -> Result<(), Refusal> {
+        Reference.start_map(count, map)
+    }
+
+    fn count_suspects(&self, count: usize, map: &[u64]) -> Result<u64, Refusal> {
+        Reference.count_suspects(count, map)
+    }
+}
+
+#[test]
+fn histories_notice_a_call_that_is_lax_about_h() {
+    for looks_late in [false, true] {
+        for kind in KINDS.into_iter().map(Some).chain([None]) {
+            let lax = Lax { kind, looks_late };
+            let run = || run_histories(&lax, 0..4, &[(16, 3), (32, 2)], 300);
             let passed = catch_unwind(AssertUnwindSafe(run)).is_ok();
             assert!(!passed, "{kind:?}");
         }
@@ -316,6 +401,9 @@ fn histories_notice_a_wrong_mark() {
     }
     for stage in [Kind::First, Kind::Second, Kind::Third] {
         mistakes.push(Mistake::OtherBit(stage, 10));
+    }
+    for kind in KINDS {
+        mistakes.push(Mistake::OtherBit(kind, 14));
     }
     for mistake in mistakes {
         let due = "a bit is not as the rule says";

@@ -133,8 +133,8 @@ fn a_map_started_for_another_count() {
     try_another_count(&Reference);
 }
 
-/// Every refusal on arguments leaves the map alone, and 13 stands behind 1, 2 and
-/// 8 and before 9, 3 and what the sector holds.
+/// Every refusal on arguments leaves the map alone, and 13 stands behind 1, 14, 2
+/// and 8 and before 9, 3 and what the sector holds.
 #[test]
 fn refusals_on_arguments_leave_the_map_alone() {
     let mut rng = Rng::new(65);
@@ -163,6 +163,7 @@ fn refusals_on_arguments_leave_the_map_alone() {
                 assert_eq!(volume.map, map);
             };
             insist(wrong(|r| r.given.key = vec![1; 31]), 1);
+            insist(wrong(|r| r.given.key[..16].fill(0)), 14);
             insist(wrong(|r| r.given.size = 15), 2);
             insist(wrong(|r| r.given.count = 63), 8);
             insist(wrong(|r| r.given.count = 65), 8);

@@ -229,7 +229,8 @@ fn clashes_under_a_number_are_lost_under_another() {
     }
 }
 
-/// With h zero the hash is zero, so no number changes the bytes.
+/// With h zero the hash is zero, so no number changes the bytes. The calls refuse
+/// such a key; the sealing is defined.
 #[test]
 fn under_h_zero_no_number_changes_the_bytes() {
     let mut rng = Rng::new(57);
@@ -239,6 +240,8 @@ fn under_h_zero_no_number_changes_the_bytes() {
         let due = sealed(&key, 0, address, &plaintext);
         for volume in EDGES {
             assert_eq!(sealed(&key, volume, address, &plaintext), due);
+            let refused = (Err(Refusal::ZeroHashKey), vec![FILL; size]);
+            assert_eq!(judged(&key, volume, address, &due), refused);
         }
     }
 }

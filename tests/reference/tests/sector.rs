@@ -38,7 +38,8 @@ fn round_trips() {
             let plaintext = rng.bytes(size);
             round_trip(&key, address, &plaintext);
         }
-        round_trip(&[0; 32], u64::MAX, &vec![0; size]);
+        let k_zero = [rng.bytes(16), vec![0; 16]].concat();
+        round_trip(&k_zero, u64::MAX, &vec![0; size]);
         round_trip(&[0xff; 32], u64::MAX, &vec![0xff; size]);
     }
 }
@@ -46,6 +47,18 @@ fn round_trips() {
 fn round_trip(key: &[u8], address: u64, plaintext: &[u8]) {
     let size = plaintext.len();
     let sealed = sealed(key, 0, address, plaintext);
+    let (mut local, mut remote, mut tag) = (vec![FILL; size], vec![FILL; size], vec![FILL; 16]);
+    let answer = seal(
+        key,
+        0,
+        address,
+        plaintext,
+        &mut local,
+        &mut remote,
+        &mut tag,
+    );
+    assert_eq!(answer, Ok(()));
+    assert_eq!(Sealed { local, tag, remote }, sealed);
     assert_eq!(
         judged(key, address, &sealed),
         (Ok(Verdict::Whole), plaintext.to_vec())
@@ -172,13 +185,41 @@ fn clashes_of_steered_pairs() {
     }
 }
 
+/// Of a plaintext that begins with h, any bytes in block 2 of a side fit another
+/// plaintext of the same tag. Bytes in another block do not.
 #[test]
-fn clashes_of_any_pair_under_h_zero() {
+fn clashes_by_damage_to_one_side() {
     let mut rng = Rng::new(15);
-    for size in SIZES {
-        let key = common::key_with_h(&mut rng, 0);
-        let (one, other) = (rng.bytes(size), rng.bytes(size));
-        insist_on_clash(&key, rng.next_u64(), &one, &other);
+    for size in SIZES.into_iter().filter(|&size| size > 16) {
+        let (key, address) = (rng.bytes(32), rng.next_u64());
+        let mut plaintext = rng.bytes(size);
+        plaintext[..16].copy_from_slice(&key[..16]);
+        let held = sealed(&key, 0, address, &plaintext);
+        for place in [Place::Local, Place::Remote] {
+            let mut damaged = held.clone();
+            rng.fill(&mut damaged.place_mut(place)[16..32]);
+            let due = (Err(Refusal::Clashing), vec![FILL; size]);
+            assert_eq!(judged(&key, address, &damaged), due);
+            rng.fill(&mut damaged.place_mut(place)[..16]);
+            let due = (Ok(Verdict::Doubtful(place)), plaintext.clone());
+            assert_eq!(judged(&key, address, &damaged), due);
+        }
+    }
+}
+
+#[test]
+fn clashes_under_an_h_of_one_bit() {
+    let mut rng = Rng::new(18);
+    for bit in 0..128 {
+        let (h, address) = (1 << bit, rng.next_u64());
+        let key = common::key_with_h(&mut rng, h);
+        let size = 16 * (2 + rng.below(7));
+        let plaintext = to_blocks(&rng.bytes(size));
+        let (one, other) = blind_pair(h, &plaintext, rng.next_u128());
+        insist_on_clash(&key, address, &to_bytes(&one), &to_bytes(&other));
+        let other = to_blocks(&rng.bytes(size));
+        let steered = steer(h, 0, address, &plaintext, &other).expect("steerable");
+        insist_on_clash(&key, address, &to_bytes(&plaintext), &to_bytes(&steered));
     }
 }
 
@@ -261,13 +302,13 @@ fn sizes_at_the_bounds() {
     for size in refused {
         let bytes = vec![1; size];
         let (mut a, mut b, mut tag) = (vec![FILL; size], vec![FILL; size], [FILL; 16]);
-        let due = Err(Refusal::SectorSize);
-        assert_eq!(seal(&[0; 32], 0, 0, &bytes, &mut a, &mut b, &mut tag), due);
-        assert_eq!(open(&[0; 32], 0, 0, 0, &bytes, &[0; 16], &mut a), due);
-        assert_eq!(rebuild(&[0; 32], 0, 0, 0, &bytes, &[0; 16], &mut a), due);
+        let (key, due) = ([3; 32], Err(Refusal::SectorSize));
+        assert_eq!(seal(&key, 0, 0, &bytes, &mut a, &mut b, &mut tag), due);
+        assert_eq!(open(&key, 0, 0, 0, &bytes, &[0; 16], &mut a), due);
+        assert_eq!(rebuild(&key, 0, 0, 0, &bytes, &[0; 16], &mut a), due);
         assert_eq!(combine(&bytes, &bytes, &mut a), due);
         assert_eq!(
-            judge(&[0; 32], 0, 0, &bytes, &[0; 16], &bytes, &mut a),
+            judge(&key, 0, 0, &bytes, &[0; 16], &bytes, &mut a),
             Err(Refusal::SectorSize)
         );
         assert!(a.iter().chain(&b).chain(&tag).all(|&byte| byte == FILL));

@@ -127,6 +127,11 @@ fn the_last_that_says_something_of_a_bit_decides() {
         (Kind::Third, 3, "101100"),
         (Kind::Read, 13, "101100"),
         (Kind::Mend, 8, "101100"),
+        (Kind::Blank, 14, "101100"),
+        (Kind::First, 14, "101100"),
+        (Kind::Read, 14, "101100"),
+        (Kind::Mend, 14, "101100"),
+        (Kind::Write, 14, "101100"),
     ] {
         let said = with(&[on(kind, 1, answer), on(kind, 2, answer)]);
         assert_eq!(said, bits, "{kind:?} {answer}");
@@ -151,6 +156,7 @@ fn when_clear_is_whole() {
         foreign(Kind::Read, 1, 6),
         foreign(Kind::First, 1, 10)
     ]));
+    assert!(holds(&[foreign(Kind::Blank, 1, 14)]));
     assert!(!holds(&[Entry::Written]));
     assert!(!holds(&[foreign(Kind::Blank, 1, 0)]));
     assert!(!holds(&[foreign(Kind::Mend, 1, 0x81)]));

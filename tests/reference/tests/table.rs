@@ -8,7 +8,7 @@ use reference::brw::brw;
 use reference::field::{double, product, to_bytes};
 use reference::rng::Rng;
 use reference::seal::sealed;
-use reference::seal::{judge, local_block, remote_block, tweak};
+use reference::seal::{judge, local_block, remote_block, tweak, Sealer, Triple};
 
 const TOP_BIT: u128 = 1 << 127;
 
@@ -61,9 +61,18 @@ fn row_h_pair_clashes() {
         let other = sealed(&key, 0, address, &to_bytes(&[h, 1]));
         assert_eq!(one.tag, other.tag);
         for (local, remote) in [(&one.local, &other.remote), (&other.local, &one.remote)] {
+            // By the definition, for every h, and by the call, which refuses h zero.
+            let sealer = Sealer::new(key[..].try_into().expect("32 bytes"));
+            let held = Triple::from_bytes(local, &one.tag, remote);
+            assert_eq!(sealer.judge(0, address, &held), Err(Refusal::Clashing));
             let mut output = [0x5a; 32];
             let answer = judge(&key, 0, address, local, &one.tag, remote, &mut output);
-            assert_eq!(answer, Err(Refusal::Clashing));
+            let due = if h == 0 {
+                Refusal::ZeroHashKey
+            } else {
+                Refusal::Clashing
+            };
+            assert_eq!(answer, Err(due));
             assert_eq!(output, [0x5a; 32]);
         }
     }

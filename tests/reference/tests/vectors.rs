@@ -18,6 +18,17 @@ fn print_vectors() -> String {
 /// The lines from before the volume's number, which stay in front.
 const OLD_LINES: usize = 473;
 
+/// Those that were stored with it, which come next. The rest are about h.
+const NUMBERED_LINES: usize = 177;
+
+/// The lines of these three kinds.
+fn parts(text: &str) -> [Vec<Parsed>; 3] {
+    let mut old: Vec<_> = text.lines().map(parse).collect();
+    let mut numbered = old.split_off(OLD_LINES);
+    let of_h = numbered.split_off(NUMBERED_LINES);
+    [old, numbered, of_h]
+}
+
 /// The call's number and all fields of a line.
 type Parsed = (u8, Vec<Vec<u8>>);
 
@@ -88,24 +99,82 @@ fn replay(call: u8, fields: &[Vec<u8>]) -> u8 {
 fn vectors_replay_and_cover() {
     let text = print_vectors();
     assert_eq!(text, print_vectors(), "the same on every run");
-    assert!(text.len() < 850_000);
+    assert!(text.len() < 950_000);
     assert!(text.ends_with('\n'));
     assert_eq!(text, text.to_lowercase());
-    let lines: Vec<_> = text.lines().map(parse).collect();
-    let (old, numbered) = lines.split_at(OLD_LINES);
-    let mut answers = answers_of_calls(old);
-    assert_eq!(answers.pop(), Some([0, 2, 3].into()));
-    let due = [
+    let [old, numbered, of_h] = parts(&text);
+    let due: [BTreeSet<u8>; 4] = [
         [0, 1, 2, 3].into(),
         [0, 1, 2, 3, 6, 7, 0x81, 0x82, 0x83].into(),
         [0, 1, 2, 3, 4, 5].into(),
         [0, 1, 2, 3, 4, 5].into(),
     ];
+    let mut answers = answers_of_calls(&old);
+    assert_eq!(answers.pop(), Some([0, 2, 3].into()));
+    // The keys of an h of zero, which were accepted once.
+    for call in [0, 1] {
+        assert!(answers[call].remove(&14));
+    }
     assert_eq!(answers, due);
-    answers = answers_of_calls(numbered);
+    answers = answers_of_calls(&numbered);
     assert_eq!(answers.pop(), Some([].into()), "combining has no number");
     assert_eq!(answers, due);
-    println!("{} old and {} numbered", old.len(), numbered.len());
+    answers = answers_of_calls(&of_h);
+    assert_eq!(answers.pop(), Some([].into()), "combining has no key");
+    let due: [BTreeSet<u8>; 4] = [
+        [0, 1, 14].into(),
+        [0, 1, 7, 14, 0x81, 0x82, 0x83].into(),
+        [0, 1, 14].into(),
+        [0, 1, 14].into(),
+    ];
+    assert_eq!(answers, due);
+    let [old, numbered, of_h] = [old, numbered, of_h].map(|lines| lines.len());
+    println!("{old} old, {numbered} numbered and {of_h} about h");
+}
+
+/// Exactly the keys of 32 bytes with an h of zero answer 14, and there the outputs
+/// stay. These lines were stored before, and only their answers have changed.
+#[test]
+fn zero_h_answers_14() {
+    let [old, numbered, of_h] = parts(&print_vectors());
+    let mut changed = vec![];
+    let lines = old.iter().chain(&numbered).chain(&of_h);
+    for (line, (call, fields)) in (1..).zip(lines) {
+        if *call == 4 {
+            continue;
+        }
+        let has_zero_h = fields[0].len() == 32 && fields[0][..16] == [0; 16];
+        assert_eq!(fields[6] == [14], has_zero_h, "line {line}");
+        if has_zero_h {
+            let outputs = if *call == 0 { 3..6 } else { 5..6 };
+            assert_eq!(fields[7..], fields[outputs], "line {line}");
+            changed.push(line);
+        }
+    }
+    let seals = [25..=27, 37..=39, 49..=51, 61..=63];
+    let stored: Vec<usize> = seals.into_iter().flatten().chain(267..=282).collect();
+    assert_eq!(changed[..stored.len()], stored);
+    assert!(changed[stored.len()] > OLD_LINES + NUMBERED_LINES);
+}
+
+/// Among the lines about h: an h of one bit, and a K of zero, are accepted by each
+/// call.
+#[test]
+fn keys_with_little_in_them_are_accepted() {
+    let [_, _, of_h] = parts(&print_vectors());
+    for call in 0..4 {
+        let accepted = of_h
+            .iter()
+            .filter(|(of, fields)| *of == call && fields[6] == [0]);
+        let keys: BTreeSet<&[u8]> = accepted.map(|(_, fields)| &fields[0][..]).collect();
+        let ones = |bytes: &[u8]| bytes.iter().map(|byte| byte.count_ones()).sum::<u32>();
+        let of_one_bit = keys.iter().filter(|key| ones(&key[..16]) == 1);
+        let places: BTreeSet<usize> = of_one_bit
+            .map(|key| key.iter().position(|&byte| byte != 0).expect("a bit"))
+            .collect();
+        assert_eq!(places, [0, 7, 8, 15].into());
+        assert!(keys.iter().any(|key| key[16..] == [0; 16]));
+    }
 }
 
 /// The answers that each call gives, after a run of all lines.
@@ -119,14 +188,15 @@ fn answers_of_calls(lines: &[Parsed]) -> Vec<BTreeSet<u8>> {
 
 #[test]
 fn only_the_lines_behind_the_old_ones_say_a_number() {
-    let text = print_vectors();
-    let lines: Vec<_> = text.lines().map(parse).collect();
-    let (old, numbered) = lines.split_at(OLD_LINES);
-    for (call, fields) in old {
+    let [old, numbered, of_h] = parts(&print_vectors());
+    for (call, fields) in &old {
         assert!(*call == 4 || fields[1].len() == 8);
     }
+    for (_, fields) in &of_h {
+        assert_eq!(fields[1].len(), 16);
+    }
     let mut positions = BTreeSet::new();
-    for (_, fields) in numbered {
+    for (_, fields) in &numbered {
         assert_eq!(fields[1].len(), 16);
         positions.insert(position(&fields[1]));
     }
@@ -148,9 +218,7 @@ fn only_the_lines_behind_the_old_ones_say_a_number() {
 
 #[test]
 fn numbered_lines_have_their_pairs() {
-    let text = print_vectors();
-    let lines: Vec<_> = text.lines().map(parse).collect();
-    let (old, numbered) = lines.split_at(OLD_LINES);
+    let [old, numbered, _] = parts(&print_vectors());
     let seals = || {
         numbered
             .iter()
@@ -173,7 +241,7 @@ fn numbered_lines_have_their_pairs() {
     assert_eq!((alone, exchanged), (8, 8));
 
     let mut zeros = 0;
-    for (call, fields) in numbered {
+    for (call, fields) in &numbered {
         if fields[1][..8] == [0; 8] {
             let mut short = fields.clone();
             short[1].drain(..8);

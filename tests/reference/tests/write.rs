@@ -26,7 +26,7 @@ fn any_state() {
     }
     println!("{answers:?}");
     let seen: Vec<u8> = answers.into_keys().collect();
-    assert_eq!(seen, [0, 6, 7, 0x81, 0x82, 0x83]);
+    assert_eq!(seen, [0, 6, 7, 14, 0x81, 0x82, 0x83]);
 }
 
 /// What the sector holds already, zeros, and a plaintext whose tag is that of what
@@ -72,9 +72,10 @@ fn without_the_mend_a_stage_is_refused() {
 type Fault = fn(&mut Volume, &mut Request);
 
 /// Every refusal on arguments, in the order of the request.
-const FAULTS: [(u8, Fault); 15] = [
+const FAULTS: [(u8, Fault); 16] = [
     (1, |_, request| request.given.key.truncate(31)),
     (1, |_, request| request.given.key.push(0)),
+    (14, |_, request| request.given.key[..16].fill(0)),
     (2, |_, request| request.given.size = 31),
     (2, |_, request| request.given.size = 4112),
     (8, |_, request| request.given.count = 0),

@@ -12,14 +12,13 @@ use reference::rng::Rng;
 use reference::seal::{sealed, Sealed};
 
 const SEED: u64 = 0x0f4a_3e50;
+/// The frames about h draw for themselves, so that the older ones stay.
+const H_SEED: u64 = 0x0007_000e_0001;
 const SIZES: [usize; 8] = [16, 32, 48, 64, 128, 512, 1024, 4096];
 const LARGEST: usize = 4096;
 
 fn main() -> io::Result<()> {
-    let mut maker = Maker {
-        rng: Rng::new(SEED),
-        text: Vec::new(),
-    };
+    let mut maker = Maker::new(SEED);
     maker.example();
     maker.verdicts();
     maker.clashes();
@@ -28,10 +27,17 @@ fn main() -> io::Result<()> {
     maker.lengths();
     maker.malformed();
     maker.long();
-    // Last, since no line feed ends it.
     maker.due("ff", b"0c");
-    maker.text.pop();
-    io::stdout().write_all(&maker.text)
+    let mut of_h = Maker::new(H_SEED);
+    of_h.under_zero_h();
+    of_h.zero_h_beside_other_faults();
+    of_h.keys_with_little_in_h();
+    of_h.zeros_without_a_key();
+    // Last, since no line feed ends it.
+    let (key, address, held) = of_h.sector_under_zero_h(16);
+    of_h.due(judge_frame(&key, address, &held), b"0e");
+    of_h.text.pop();
+    io::stdout().write_all(&[maker.text, of_h.text].concat())
 }
 
 struct Maker {
@@ -40,6 +46,13 @@ struct Maker {
 }
 
 impl Maker {
+    fn new(seed: u64) -> Maker {
+        Maker {
+            rng: Rng::new(seed),
+            text: Vec::new(),
+        }
+    }
+
     /// Adds a line, and insists on how its answer begins.
     fn due(&mut self, line: impl AsRef<[u8]>, answer: &[u8]) {
         let line = [line.as_ref(), b"\n"].concat();
@@ -219,5 +232,97 @@ impl Maker {
         }
         // What comes behind a long line is not mistaken for a part of it.
         self.due(&largest, b"00");
+    }
+}
+
+/// The frames about h.
+impl Maker {
+    /// What earlier releases sealed under a key whose h is zero.
+    fn sector_under_zero_h(&mut self, size: usize) -> (Vec<u8>, u64, Sealed) {
+        let key = [vec![0; 16], self.rng.bytes(16)].concat();
+        let address = self.rng.next_u64();
+        let held = sealed(&key, VOLUME, address, &self.rng.bytes(size));
+        (key, address, held)
+    }
+
+    /// As sealed, with each place damaged, and with two.
+    fn under_zero_h(&mut self) {
+        for size in [16, 32, 64, 512, LARGEST] {
+            let (key, address, held) = self.sector_under_zero_h(size);
+            let frame = judge_frame(&key, address, &held);
+            if size == LARGEST {
+                self.due(frame, b"0e");
+                continue;
+            }
+            self.due_in_cases(&frame, b"0e");
+            for place in Place::ALL {
+                let mut damaged = held.clone();
+                self.damage(damaged.place_mut(place), 1);
+                self.due(judge_frame(&key, address, &damaged), b"0e");
+                self.damage(&mut damaged.tag, 0);
+                self.due(judge_frame(&key, address, &damaged), b"0e");
+            }
+            let held = sealed(&[0; 32], VOLUME, address, &vec![0; size]);
+            self.due(judge_frame(&[0; 32], address, &held), b"0e");
+        }
+        self.due(format!("01{}", "00".repeat(88)), b"0e");
+    }
+
+    /// The refusals of a frame come before that of its key.
+    fn zero_h_beside_other_faults(&mut self) {
+        let (key, address, held) = self.sector_under_zero_h(32);
+        let frame = judge_frame(&key, address, &held);
+        self.due(&frame[..frame.len() - 1], b"0c");
+        self.due(format!("{frame}0"), b"0c");
+        self.due(frame.replacen("00", "0g", 1), b"0c");
+        self.due(frame.replacen("01", "03", 1), b"0c");
+        for (bytes, answer) in [
+            (33, b"0c"),
+            (56, b"0c"),
+            (57, b"02"),
+            (58, b"03"),
+            (57 + 30, b"02"),
+            (57 + 31, b"03"),
+            (57 + 32, b"0e"),
+            (57 + 33, b"03"),
+            (57 + 34, b"02"),
+            (57 + 63, b"03"),
+            (57 + 64, b"0e"),
+        ] {
+            self.due(&frame[..2 * bytes], answer);
+        }
+        self.due(format!("{frame}00"), b"03");
+        self.due(format!("{frame}0000"), b"02");
+        let (key, address, held) = self.sector_under_zero_h(LARGEST);
+        let largest = judge_frame(&key, address, &held);
+        self.due(format!("{largest}00"), b"0c");
+    }
+
+    /// Keys that are accepted: h of one bit at either end of each half; halves that
+    /// are equal, or add up to zero; a K of zero.
+    fn keys_with_little_in_h(&mut self) {
+        let half = u128::from(self.rng.next_u64());
+        let equal = (half << 64) | half;
+        let opposite = (half << 64) | ((1 << 64) - half);
+        let of_one_bit = [1 << 127, 1 << 64, 1 << 63, 1];
+        for h in of_one_bit.into_iter().chain([equal, opposite]) {
+            for k in [self.rng.bytes(16), vec![0; 16]] {
+                let key = [h.to_be_bytes().to_vec(), k].concat();
+                let address = self.rng.next_u64();
+                let mut held = sealed(&key, VOLUME, address, &self.rng.bytes(32));
+                self.due(judge_frame(&key, address, &held), b"00");
+                self.damage(&mut held.tag, 0);
+                self.due(judge_frame(&key, address, &held), b"82");
+            }
+        }
+    }
+
+    /// Zeros where a frame to be judged has h.
+    fn zeros_without_a_key(&mut self) {
+        for size in [16, 32] {
+            let rest = self.rng.bytes(2 * size - 16);
+            let zeros = "00".repeat(16);
+            self.due(format!("02{zeros}{}", hex::encode(&rest)), b"00");
+        }
     }
 }

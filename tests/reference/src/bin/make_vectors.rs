@@ -20,6 +20,8 @@ use reference::seal;
 const SEED: u64 = 0x2003_0197;
 /// The lines with a number draw for themselves, so that the older ones stay.
 const NUMBERED_SEED: u64 = 0x0005_0002_0064;
+/// So do the lines about h.
+const H_SEED: u64 = 0x0007_000e_0000;
 const SMALL_SIZES: [usize; 4] = [16, 32, 48, 64];
 const LARGE: usize = 4096;
 const LOCAL: u8 = 0;
@@ -40,7 +42,10 @@ fn main() -> io::Result<()> {
     maker.combine_refusals();
     let mut numbered = Maker::new(NUMBERED_SEED);
     numbered.numbered_vectors(&maker.lines);
-    let lines = maker.lines.iter().chain(&numbered.lines);
+    let mut of_h = Maker::new(H_SEED);
+    of_h.h_vectors();
+    let makers = [&maker, &numbered, &of_h];
+    let lines = makers.into_iter().flat_map(|maker| &maker.lines);
     let text: String = lines.map(Line::text).collect();
     io::stdout().write_all(text.as_bytes())
 }
@@ -101,26 +106,18 @@ struct Sealed {
 }
 
 impl Sealed {
+    /// Also under an h of zero, as earlier releases sealed.
     fn new(key: &[u8], position: impl Into<Position>, plaintext: &[u8]) -> Sealed {
         let position = position.into();
-        let mut sealed = Sealed {
+        let seal::Sealed { local, tag, remote } =
+            seal::sealed(key, position.volume(), position.address, plaintext);
+        Sealed {
             key: key.to_vec(),
             position,
-            local: vec![0; plaintext.len()],
-            tag: vec![0; 16],
-            remote: vec![0; plaintext.len()],
-        };
-        seal::seal(
-            key,
-            position.volume(),
-            position.address,
-            plaintext,
-            &mut sealed.local,
-            &mut sealed.remote,
-            &mut sealed.tag,
-        )
-        .expect("the lengths are right");
-        sealed
+            local,
+            tag,
+            remote,
+        }
     }
 
     fn side(&self, side: u8) -> &[u8] {
@@ -306,9 +303,11 @@ impl Maker {
         self.lines.push(line);
     }
 
-    fn seal_done(&mut self, key: &[u8], position: impl Into<Position>, plaintext: &[u8]) {
+    /// With outputs of the right lengths: done, or refused for an h of zero.
+    fn seal_right(&mut self, key: &[u8], position: impl Into<Position>, plaintext: &[u8]) {
         let size = plaintext.len();
-        self.seal(key, position, plaintext, [size, size, 16], 0);
+        let due = unless_h_is_zero(key, 0);
+        self.seal(key, position, plaintext, [size, size, 16], due);
     }
 
     fn seal_vectors(&mut self) {
@@ -316,12 +315,12 @@ impl Maker {
         for blocks in (1..=20).chain([31, 32]) {
             let (key, address) = (self.key(), self.address());
             let plaintext = self.rng.bytes(16 * blocks);
-            self.seal_done(&key, address, &plaintext);
+            self.seal_right(&key, address, &plaintext);
         }
         for size in [512, LARGE] {
             let (key, address) = (self.key(), self.address());
             let plaintext = self.rng.bytes(size);
-            self.seal_done(&key, address, &plaintext);
+            self.seal_right(&key, address, &plaintext);
         }
         self.seal_edges();
     }
@@ -331,9 +330,9 @@ impl Maker {
         for size in SMALL_SIZES {
             for key in &plain_keys {
                 for address in [0, u64::MAX] {
-                    self.seal_done(key, address, &vec![0; size]);
+                    self.seal_right(key, address, &vec![0; size]);
                 }
-                self.seal_done(key, 1 << 32, &vec![0xff; size]);
+                self.seal_right(key, 1 << 32, &vec![0xff; size]);
             }
         }
         for size in [16, 32] {
@@ -343,7 +342,7 @@ impl Maker {
                 .iter_mut()
                 .step_by(16)
                 .for_each(|byte| *byte = 0x80);
-            self.seal_done(&key, address, &top_bits);
+            self.seal_right(&key, address, &top_bits);
         }
     }
 
@@ -460,7 +459,7 @@ impl Maker {
     fn judge_pair(&mut self, key: &[u8], position: impl Into<Position>, one: &[u8], other: &[u8]) {
         let position = position.into();
         let size = one.len();
-        let all_tags_alike = key[..16] == [0; 16];
+        let due = |due| unless_h_is_zero(key, due);
         let one = Sealed::new(key, position, one);
         let other = Sealed::new(key, position, other);
         assert_eq!(one.tag, other.tag);
@@ -469,18 +468,16 @@ impl Maker {
                 remote: second.remote.clone(),
                 ..first.clone()
             };
-            self.judge(&clash, size, 7);
+            self.judge(&clash, size, due(7));
             // Under a wrong tag neither plaintext fits two places.
             let lost = self.scrambled(&clash, &[2]);
-            self.judge(&lost, size, 6);
+            self.judge(&lost, size, due(6));
         }
         // A second plaintext with the same tag alone is no clash.
-        self.judge(&one, size, 0);
+        self.judge(&one, size, due(0));
         for place in 1..=3 {
             let damaged = self.scrambled(&one, &[place]);
-            // Where all plaintexts share the tag, any bytes on a side fit one.
-            let clash = all_tags_alike && place != 2;
-            self.judge(&damaged, size, if clash { 7 } else { 0x80 | place });
+            self.judge(&damaged, size, due(0x80 | place));
         }
     }
 
@@ -505,7 +502,8 @@ impl Maker {
             let (one, other) = self.steered_pair(&key, address, size);
             self.judge_pair(&key, address, &one, &other);
         }
-        // With h = 0 all plaintexts have one tag, even those of one block.
+        // With h = 0 all plaintexts have one tag, even those of one block. Before
+        // such keys were refused, these clashed.
         for size in [16, 32] {
             let (mut key, address) = (self.key(), self.address());
             key[..16].fill(0);
@@ -763,13 +761,13 @@ impl Maker {
             for (step, address) in addresses.into_iter().enumerate() {
                 let (key, size) = (self.key(), NUMBERED_SIZES[(turn + step) % 3]);
                 let plaintext = self.rng.bytes(size);
-                self.seal_done(&key, Position::under(volume, address), &plaintext);
+                self.seal_right(&key, Position::under(volume, address), &plaintext);
             }
         }
         for size in [512, LARGE] {
             let (key, position) = (self.key(), self.position());
             let plaintext = self.rng.bytes(size);
-            self.seal_done(&key, position, &plaintext);
+            self.seal_right(&key, position, &plaintext);
         }
     }
 
@@ -778,7 +776,7 @@ impl Maker {
     fn seal_twice(&mut self, one: Position, other: Position, size: usize) -> [Sealed; 2] {
         let (key, plaintext) = (self.key(), self.rng.bytes(size));
         for position in [one, other] {
-            self.seal_done(&key, position, &plaintext);
+            self.seal_right(&key, position, &plaintext);
         }
         let sealed = [one, other].map(|position| Sealed::new(&key, position, &plaintext));
         let [a, b] = &sealed;
@@ -954,6 +952,170 @@ impl Maker {
                 self.one_side(call, &wrong, 2, &bytes, output, due);
             }
         }
+    }
+}
+
+/// The lines about h: other plaintexts of one tag, keys that are refused for an h
+/// of zero, and keys that are not.
+impl Maker {
+    fn h_vectors(&mut self) {
+        self.clashes_by_damage();
+        for size in [16, 32, 64] {
+            let key = [vec![0; 16], self.rng.bytes(16)].concat();
+            self.under_zero_h(&key, size);
+        }
+        self.under_zero_h(&[0; 32], 48);
+        self.zeros_of_other_lengths();
+        self.zero_h_beside_other_faults();
+        self.keys_with_little_in_h();
+    }
+
+    /// Of a plaintext that begins with h, block 2 has no say in the tag: any bytes
+    /// there on a side fit a plaintext of that tag. Block 1 has its say.
+    fn clashes_by_damage(&mut self) {
+        for size in [32, 48, 80] {
+            let (key, position) = (self.key(), self.position());
+            let mut plaintext = self.rng.bytes(size);
+            plaintext[..16].copy_from_slice(&key[..16]);
+            let sealed = Sealed::new(&key, position, &plaintext);
+            self.judge(&sealed, size, 0);
+            for sides in [&[1][..], &[3], &[1, 3]] {
+                let mut clash = sealed.clone();
+                for &side in sides {
+                    self.rng.fill(&mut place_mut(&mut clash, side)[16..32]);
+                }
+                self.judge(&clash, size, 7);
+            }
+            for place in 1..=3 {
+                let mut damaged = sealed.clone();
+                self.rng.fill(&mut place_mut(&mut damaged, place)[..16]);
+                self.judge(&damaged, size, 0x80 | place);
+            }
+        }
+    }
+
+    /// What earlier releases sealed under such a key, as sealed and damaged.
+    fn under_zero_h(&mut self, key: &[u8], size: usize) {
+        let (position, plaintext) = (self.position(), self.rng.bytes(size));
+        self.seal_right(key, position, &plaintext);
+        let sealed = Sealed::new(key, position, &plaintext);
+        for places in [&[][..], &[1], &[2], &[3], &[1, 2]] {
+            let damaged = self.scrambled(&sealed, places);
+            self.judge(&damaged, size, 14);
+        }
+        let other_tag = self.scrambled(&sealed, &[2]);
+        for call in [OneSide::Open, OneSide::Rebuild] {
+            for side in [LOCAL, REMOTE] {
+                self.one_side(call, &sealed, side, sealed.side(side), size, 14);
+                self.one_side(call, &other_tag, side, sealed.side(side), size, 14);
+            }
+        }
+    }
+
+    /// A key of zeros that is not 32 bytes is refused for its length.
+    fn zeros_of_other_lengths(&mut self) {
+        let position = self.position();
+        let sealed = self.sealed_at(position, 16);
+        for length in [0, 16, 31, 33, 64] {
+            let wrong = Sealed {
+                key: vec![0; length],
+                ..sealed.clone()
+            };
+            self.seal(&wrong.key, position, &[7; 16], [16; 3], 1);
+            self.judge(&wrong, 16, 1);
+            for call in [OneSide::Open, OneSide::Rebuild] {
+                self.one_side(call, &wrong, LOCAL, &wrong.local, 16, 1);
+            }
+        }
+    }
+
+    /// An h of zero goes before all but the key's length.
+    fn zero_h_beside_other_faults(&mut self) {
+        let position = self.position();
+        let key = [vec![0; 16], self.rng.bytes(16)].concat();
+        let sealed = Sealed::new(&key, position, &[7; 32]);
+        for (plaintext, outputs) in [
+            (15, [15, 15, 16]),
+            (31, [15, 16, 17]),
+            (32, [31, 32, 16]),
+            (32, [32, 33, 16]),
+            (32, [32, 32, 15]),
+        ] {
+            self.seal(&key, position, &vec![7; plaintext], outputs, 14);
+        }
+        for (local, tag, remote, output) in [
+            (15, 16, 15, 15),
+            (31, 15, 17, 0),
+            (32, 15, 32, 32),
+            (32, 16, 31, 32),
+            (32, 16, 32, 33),
+        ] {
+            let wrong = Sealed {
+                local: resized(&sealed.local, local),
+                tag: resized(&sealed.tag, tag),
+                remote: resized(&sealed.remote, remote),
+                ..sealed.clone()
+            };
+            self.judge(&wrong, output, 14);
+        }
+        for call in [OneSide::Open, OneSide::Rebuild] {
+            for (side, sector, tag, output) in [
+                (LOCAL, 15, 16, 15),
+                (2, 31, 15, 0),
+                (LOCAL, 32, 17, 32),
+                (REMOTE, 32, 16, 31),
+                (2, 32, 16, 32),
+                (255, 32, 16, 32),
+            ] {
+                let wrong = Sealed {
+                    tag: resized(&sealed.tag, tag),
+                    ..sealed.clone()
+                };
+                let bytes = resized(sealed.side(side), sector);
+                self.one_side(call, &wrong, side, &bytes, output, 14);
+            }
+        }
+    }
+
+    /// Keys that are accepted: h of one bit at either end of each half; halves that
+    /// are equal, or add up to zero; a K of zero.
+    fn keys_with_little_in_h(&mut self) {
+        let half = u128::from(self.rng.next_u64());
+        let equal = (half << 64) | half;
+        let opposite = (half << 64) | ((1 << 64) - half);
+        let of_one_bit = [1 << 127, 1 << 64, 1 << 63, 1];
+        let any = self.rng.next_u128();
+        for (turn, (h, k_is_zero)) in of_one_bit
+            .into_iter()
+            .chain([1 << 71, 1 << 56, equal, opposite])
+            .map(|h| (h, false))
+            .chain([(any, true), (1, true), (1 << 127, true)])
+            .enumerate()
+        {
+            let k = if k_is_zero {
+                vec![0; 16]
+            } else {
+                self.rng.bytes(16)
+            };
+            let key = [h.to_be_bytes().to_vec(), k].concat();
+            let (position, size) = (self.position(), [16, 32][turn % 2]);
+            let plaintext = self.rng.bytes(size);
+            self.seal_right(&key, position, &plaintext);
+            let sealed = Sealed::new(&key, position, &plaintext);
+            self.judge(&sealed, size, 0);
+            for (call, side) in [(OneSide::Open, LOCAL), (OneSide::Rebuild, REMOTE)] {
+                self.one_side(call, &sealed, side, sealed.side(side), size, 0);
+            }
+        }
+    }
+}
+
+/// What is due under a key, which is 14 where its h is zero.
+fn unless_h_is_zero(key: &[u8], due: u8) -> u8 {
+    if key[..16] == [0; 16] {
+        14
+    } else {
+        due
     }
 }
 

@@ -1,7 +1,7 @@
 //! The part of a history that is about the map: the calls on it, and the two
 //! claims that are made of it, which are told from the log.
 
-use super::{Answer, History, Made, Request, Stretch, Tally, FEW};
+use super::{Answer, History, Made, Request, Stretch, Tally, FEW, KINDS};
 use crate::answer::{answer_number, Verdict};
 use crate::seal::{Sealed, Sealer, Triple};
 use crate::suspects::{answer_on_map, bits, Call, Entry, Log};
@@ -108,15 +108,19 @@ impl History<'_> {
         }
     }
 
-    /// A survey that may be refused for its map or its list.
+    /// A survey that may be refused for its key, its map or its list.
     fn survey_lent_anything(&mut self) {
         let (count, words) = (self.given.count, self.choose_words());
         let room = *self.rng.pick(&[0, count - 1, count]);
         let (map, mut list) = (self.lent(words), vec![u32::MAX; room]);
-        let found = self
-            .calls
-            .survey(&self.given, &self.images, &map, &mut list);
-        let due = if words != self.map.len() {
+        let mut given = self.given.clone();
+        if self.rng.chance(10) {
+            given.key[..16].fill(0);
+        }
+        let found = self.calls.survey(&given, &self.images, &map, &mut list);
+        let due = if given.has_zero_h() {
+            14
+        } else if words != self.map.len() {
             13
         } else if room < count {
             11
@@ -195,7 +199,8 @@ impl History<'_> {
     /// The second claim: where it is due, each clear bit below n is that of a
     /// sector whose three places one plaintext fits.
     fn check_clear(&mut self, is_due: bool) {
-        let sealer = Sealer::new(&self.given.key).expect("the volume's key");
+        let key = self.given.key[..].try_into().expect("the volume's key");
+        let sealer = Sealer::new(key);
         let bits = bits(&self.map);
         let mut clear_and_whole = 0;
         for number in (0..self.given.count).filter(|&number| !bits[number]) {
@@ -299,8 +304,10 @@ pub fn insist_on_marks(tally: &Tally) {
         insist_on(tally, &format!("{call} leaves a set bit"));
         insist_on(tally, &format!("{call} leaves a clear bit"));
     }
-    for call in ["Blank", "First", "Second", "Third", "Mend", "Read", "Write"] {
+    for call in KINDS {
         insist_on(tally, &format!("{call} answers 0d"));
+        insist_on(tally, &format!("{call} 0e leaves a set bit"));
+        insist_on(tally, &format!("{call} 0e leaves a clear bit"));
     }
     insist_on_calls_on_map(tally);
     for what in [
@@ -325,7 +332,7 @@ fn insist_on_calls_on_map(tally: &Tally) {
             insist_on(tally, &format!("{call} for {how} sectors"));
         }
     }
-    for answer in ["00", "0b", "0d"] {
+    for answer in ["00", "0b", "0d", "0e"] {
         insist_on(tally, &format!("Survey answers {answer}"));
     }
     insist_on(tally, "a count leaves out a set bit");
