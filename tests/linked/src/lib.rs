@@ -24,6 +24,7 @@ fn refusal_number(refusal: Refusal) -> u32 {
         Refusal::StageOrder => 10,
         Refusal::ListLength => 11,
         Refusal::MapLength => 13,
+        Refusal::ZeroHashKey => 14,
         _ => panic!("{refusal:?} has no number here"),
     }
 }

@@ -4,7 +4,7 @@
 
 use linked::both::Both;
 use reference::history::{insist_on_marks, insist_on_variety, insist_on_words, insist_on_writes};
-use reference::history::{run_histories, Tally};
+use reference::history::{insist_on_zero_h, run_histories, Tally, UNDER_ZERO_H};
 
 /// As many seeds come to every kind of number, and to every position of a cut in a
 /// write.
@@ -27,6 +27,7 @@ fn histories_through_the_library() {
     insist_on_marks(&tally);
     if seeds() >= SEEDS {
         insist_on_writes(&tally);
+        insist_on_zero_h(&tally);
     }
     for number in ["number 0", "number 1", "largest number", "any number"] {
         let histories = tally.get(&format!("history under {number}"));
@@ -40,6 +41,10 @@ fn histories_through_the_library() {
         ["events", "writes in one call"].map(|what| tally.get(what) + of_large.get(what));
     println!("{events} events agree, from {} seeds", seeds());
     println!("{writes} of them are writes in one call");
+    let clashing = tally.get("seen clashing");
+    println!("few sectors: {clashing} clashing sectors were kept and looked at");
+    let under_zero_h = tally.get(&format!("{UNDER_ZERO_H}events"));
+    println!("{under_zero_h} more events agree under a hash key of zeros, where nothing is kept");
     print_clear("few sectors", &tally);
 }
 

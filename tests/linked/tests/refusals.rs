@@ -24,6 +24,8 @@ enum Parameter {
     /// The number of sectors, with every length that follows from it.
     CountOfAll,
     Key,
+    /// So many bytes of the key are zero, from the first: h, or all of it.
+    ZeroKey,
     /// The volume's number: no call refuses it, but a sector may not fit it.
     Volume,
     Side,
@@ -47,7 +49,7 @@ type Fault = (Parameter, usize);
 
 /// What can be wrong with every call on a volume.
 const OF_VOLUME: &[Parameter] = &[
-    Contents, SizeOfAll, CountOfAll, Key, Volume, Size, Count, Local, Tag, Remote, Map,
+    Contents, SizeOfAll, CountOfAll, Key, ZeroKey, Volume, Size, Count, Local, Tag, Remote, Map,
 ];
 
 /// Sizes about the bounds, and lengths for lent parts.
@@ -67,19 +69,25 @@ const SHAPES: [(usize, usize); 8] = [
 ];
 
 const CALLS: [(Call, &[u32]); 15] = [
-    (Call::Seal, &[0, 1, 2, 3]),
-    (Call::Judge, &[0, 0x81, 0x82, 0x83, 1, 2, 3, 6, 7]),
-    (Call::Open, &[0, 1, 2, 3, 4, 5]),
-    (Call::Rebuild, &[0, 1, 2, 3, 4, 5]),
+    (Call::Seal, &[0, 1, 14, 2, 3]),
+    (Call::Judge, &[0, 0x81, 0x82, 0x83, 1, 14, 2, 3, 6, 7]),
+    (Call::Open, &[0, 1, 14, 2, 3, 4, 5]),
+    (Call::Rebuild, &[0, 1, 14, 2, 3, 4, 5]),
     (Call::Combine, &[0, 2, 3]),
-    (Call::Blank, &[0, 1, 2, 8, 13, 9]),
-    (Call::First, &[0, 1, 2, 8, 13, 9, 3, 10]),
-    (Call::Second, &[0, 1, 2, 8, 13, 9, 3, 10]),
-    (Call::Third, &[0, 1, 2, 8, 13, 9, 3, 10]),
-    (Call::Read, &[0, 0x81, 0x82, 0x83, 1, 2, 8, 13, 9, 3, 6, 7]),
-    (Call::Mend, &[0, 0x81, 0x82, 0x83, 1, 2, 8, 13, 9, 6, 7]),
-    (Call::Write, &[0, 0x81, 0x82, 0x83, 1, 2, 8, 13, 9, 3, 6, 7]),
-    (Call::Survey, &[0, 1, 2, 8, 13, 11]),
+    (Call::Blank, &[0, 1, 14, 2, 8, 13, 9]),
+    (Call::First, &[0, 1, 14, 2, 8, 13, 9, 3, 10]),
+    (Call::Second, &[0, 1, 14, 2, 8, 13, 9, 3, 10]),
+    (Call::Third, &[0, 1, 14, 2, 8, 13, 9, 3, 10]),
+    (
+        Call::Read,
+        &[0, 0x81, 0x82, 0x83, 1, 14, 2, 8, 13, 9, 3, 6, 7],
+    ),
+    (Call::Mend, &[0, 0x81, 0x82, 0x83, 1, 14, 2, 8, 13, 9, 6, 7]),
+    (
+        Call::Write,
+        &[0, 0x81, 0x82, 0x83, 1, 14, 2, 8, 13, 9, 3, 6, 7],
+    ),
+    (Call::Survey, &[0, 1, 14, 2, 8, 13, 11]),
     (Call::Start, &[0, 8, 13]),
     (Call::Count, &[0, 8, 13]),
 ];
@@ -88,10 +96,16 @@ const CALLS: [(Call, &[u32]); 15] = [
 fn parameters(call: Call) -> Vec<Parameter> {
     let of_volume = |more: &[Parameter]| [OF_VOLUME, more].concat();
     match call {
-        Call::Seal => vec![SizeOfAll, Key, Volume, Plain, Local, Tag, Remote],
-        Call::Judge => vec![Contents, SizeOfAll, Key, Volume, Local, Tag, Remote, Out],
+        Call::Seal => vec![SizeOfAll, Key, ZeroKey, Volume, Plain, Local, Tag, Remote],
+        Call::Judge => {
+            vec![
+                Contents, SizeOfAll, Key, ZeroKey, Volume, Local, Tag, Remote, Out,
+            ]
+        }
         Call::Open | Call::Rebuild => {
-            vec![Contents, SizeOfAll, Key, Volume, Side, Sector, Tag, Out]
+            vec![
+                Contents, SizeOfAll, Key, ZeroKey, Volume, Side, Sector, Tag, Out,
+            ]
         }
         Call::Combine => vec![SizeOfAll, Local, Remote, Out],
         Call::Blank | Call::Mend => of_volume(&[Number]),
@@ -112,6 +126,7 @@ fn values(parameter: Parameter, right: &Arguments) -> Vec<usize> {
         SizeOfAll => SIZES.to_vec(),
         CountOfAll => vec![0, 1, 2, n - 1, n + 1],
         Key => vec![0, 1, 16, 31, 33, 48, 64],
+        ZeroKey => vec![16, 32],
         Volume => {
             let own = right.volume as usize;
             vec![0, usize::MAX, own ^ 1, own ^ (1 << 63)]
@@ -171,6 +186,11 @@ fn apply(arguments: &mut Arguments, (parameter, value): Fault) {
             follow(arguments);
         }
         Key => arguments.key.resize(value, FILL),
+        ZeroKey => arguments
+            .key
+            .iter_mut()
+            .take(value)
+            .for_each(|byte| *byte = 0),
         Volume => arguments.volume = value as u64,
         Side => arguments.side = value as u32,
         Size => arguments.s = value,
@@ -247,11 +267,17 @@ fn hold(arguments: &mut Arguments, held: &Sealed) {
 
 /// Arguments that the call takes.
 fn right(rng: &mut Rng, call: Call, s: usize, n: usize) -> Arguments {
+    let key = rng.bytes(32);
+    right_under(rng, key, call, s, n)
+}
+
+/// Arguments that are right but perhaps for the key's h.
+fn right_under(rng: &mut Rng, key: Vec<u8>, call: Call, s: usize, n: usize) -> Arguments {
     let n = if call.is_on_volume() { n } else { 1 };
     let number = rng.below(n);
     let random = rng.next_u64();
     let mut arguments = Arguments {
-        key: rng.bytes(32),
+        key,
         volume: rng.next_u64(),
         address: if call.is_on_volume() {
             number as u64
@@ -344,11 +370,12 @@ fn refusals_through_the_library() {
 }
 
 /// The answers that are about lengths and numbers, and not about what is there.
-const OF_ARGUMENTS: [u32; 8] = [1, 2, 3, 4, 8, 9, 11, 13];
+const OF_ARGUMENTS: [u32; 9] = [1, 14, 2, 3, 4, 8, 9, 11, 13];
 
 /// What comes with a map of another length, and which of the two is refused.
-const BESIDE_MAP: [(Fault, u32); 16] = [
+const BESIDE_MAP: [(Fault, u32); 17] = [
     ((Key, 31), 1),
+    ((ZeroKey, 16), 14),
     ((SizeOfAll, 15), 2),
     ((Size, 4112), 2),
     ((Count, 0), 8),
@@ -398,6 +425,110 @@ fn insist_on_refusal(call: Call, given: &Arguments, due: u32) {
     let (number, left) = call.by_both(given);
     assert_eq!(number, due, "{call:?}");
     assert!(left == *given, "{call:?} is refused, and changes a byte");
+}
+
+/// The calls that take a key.
+fn keyed() -> impl Iterator<Item = Call> {
+    let calls = CALLS.iter().map(|&(call, _)| call);
+    calls.filter(|&call| parameters(call).contains(&Key))
+}
+
+/// A key whose h is zero, over what was sealed under it when it was not refused: the
+/// refusal 14 stands behind 1 and before all else. So beside every fault it is 1 for
+/// the key's length, and else 14; and beside every two, in the first shape.
+#[test]
+fn a_hash_key_of_zeros_in_its_order() {
+    let mut rng = Rng::new(600);
+    let due = |fault: Fault| if fault.0 == Key { 1 } else { 14 };
+    let mut refused = 0;
+    for (round, (s, n)) in SHAPES.into_iter().enumerate() {
+        for call in keyed() {
+            let k = if round % 2 == 0 {
+                rng.bytes(16)
+            } else {
+                vec![0; 16]
+            };
+            let key = [vec![0; 16], k].concat();
+            let mut right = right_under(&mut rng, key, call, s, n);
+            insist_on_refusal(call, &right, 14);
+            let faults = faults(call, &right);
+            for (index, &first) in faults.iter().enumerate() {
+                turn_over(&mut right);
+                let mut with_one = right.clone();
+                apply(&mut with_one, first);
+                insist_on_refusal(call, &with_one, due(first));
+                refused += 1;
+                let others = if round == 0 { &faults[index..] } else { &[] };
+                for &second in others.iter().filter(|fault| fault.0 != first.0) {
+                    let mut with_two = with_one.clone();
+                    apply(&mut with_two, second);
+                    insist_on_refusal(call, &with_two, due(first).min(due(second)));
+                    refused += 1;
+                }
+            }
+        }
+    }
+    println!("{refused} calls under a hash key of zeros are refused in their order");
+}
+
+/// A key of zeros that has not 32 bytes is refused for its length.
+#[test]
+fn zeros_of_other_lengths() {
+    let mut rng = Rng::new(601);
+    for call in keyed() {
+        let right = right(&mut rng, call, 32, 3);
+        for length in [0, 1, 8, 15, 16, 17, 24, 31, 33, 48, 64, 4096] {
+            let wrong = Arguments {
+                key: vec![0; length],
+                ..right.clone()
+            };
+            insist_on_refusal(call, &wrong, 1);
+        }
+    }
+}
+
+/// Keys that have little in h: each bit of it alone; parts of each width, twice in a
+/// row, so that they are equal or add up to zero.
+fn keys_with_little_in_h(rng: &mut Rng) -> Vec<Vec<u8>> {
+    let mut hs: Vec<Vec<u8>> = (0..128)
+        .map(|bit| (1u128 << bit).to_be_bytes().to_vec())
+        .collect();
+    for width in [1, 2, 4, 8] {
+        for start in (0..=16 - 2 * width).step_by(width) {
+            let part = 1 + rng.next_u64() % 0xff;
+            for other in [part, part.wrapping_neg()] {
+                let two = [part, other].map(|number| number.to_be_bytes()[8 - width..].to_vec());
+                let mut h = vec![0; 16];
+                h[start..start + 2 * width].copy_from_slice(&two.concat());
+                hs.push(h);
+            }
+        }
+    }
+    let keys = hs.iter().flat_map(|h| {
+        let ks = [rng.bytes(16), vec![0; 16]];
+        ks.map(|k| [&h[..], &k].concat())
+    });
+    keys.collect()
+}
+
+/// So neither the first byte alone is looked at, nor all but the last, nor one word,
+/// nor K; and no parts of h cancel.
+#[test]
+fn keys_with_little_in_h_are_accepted() {
+    let mut rng = Rng::new(602);
+    let mut accepted = 0;
+    let k_is_zero = [rng.bytes(16), vec![0; 16]].concat();
+    for key in keys_with_little_in_h(&mut rng)
+        .into_iter()
+        .chain([k_is_zero])
+    {
+        for call in keyed() {
+            let right = right_under(&mut rng, key.clone(), call, 16, 2);
+            assert_eq!(call.by_both(&right).0, 0, "{call:?} under {key:02x?}");
+            accepted += 1;
+        }
+    }
+    println!("{accepted} calls under keys with little in h are accepted");
 }
 
 /// What is refused under one volume's number is refused under every one.

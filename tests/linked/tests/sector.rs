@@ -11,7 +11,7 @@ use reference::answer::Place;
 use reference::collide::{blind_pair, steer};
 use reference::field::{to_block, to_blocks, to_bytes};
 use reference::rng::Rng;
-use reference::seal::Sealed;
+use reference::seal::{sealed, Sealed};
 
 /// Sizes of every round.
 const FREQUENT: [usize; 5] = [16, 32, 48, 512, 4096];
@@ -77,6 +77,7 @@ impl Seen {
 struct Trial<'a> {
     rng: Rng,
     key: Vec<u8>,
+    h_is_random: bool,
     volume: u64,
     address: u64,
     size: usize,
@@ -86,10 +87,13 @@ struct Trial<'a> {
 impl<'a> Trial<'a> {
     fn new(mut rng: Rng, size: usize, seen: &'a mut Seen) -> Self {
         let mut key = rng.bytes(32);
-        match rng.below(12) {
+        let how = rng.below(12);
+        match how {
             0 => key[..16].fill(0),
             1 => key.fill(0),
             2 => key.fill(0xff),
+            3 => key[..16].copy_from_slice(&(1u128 << rng.below(128)).to_be_bytes()),
+            4 => key[16..].fill(0),
             _ => {}
         }
         let volume = any_volume(&mut rng);
@@ -98,6 +102,7 @@ impl<'a> Trial<'a> {
         Trial {
             rng,
             key,
+            h_is_random: how > 3,
             volume,
             address,
             size,
@@ -107,6 +112,10 @@ impl<'a> Trial<'a> {
 
     fn run(&mut self) {
         let plain = self.choose_plaintext();
+        if self.h() == 0 {
+            self.refuse(&plain);
+            return;
+        }
         let sealed = self.seal(&plain);
         self.judge("as sealed", &sealed, Some(0));
         self.damage(&sealed);
@@ -122,10 +131,32 @@ impl<'a> Trial<'a> {
         to_block(&self.key[..16])
     }
 
-    /// What is due of a damaged sector under a random key. With h zero all
-    /// plaintexts share one tag; with h all ones so do many that begin with it.
+    /// What is due of a damaged sector under a random h. With h all ones many
+    /// plaintexts share a tag that begin with it, and with h of one bit a power of
+    /// it may be the tweak.
     fn if_h_is_random(&self, due: u32) -> Option<u32> {
-        (![0, u128::MAX].contains(&self.h())).then_some(due)
+        self.h_is_random.then_some(due)
+    }
+
+    /// With h zero every call that takes the key refuses it: on what was sealed under
+    /// it before, and on that with a place damaged, or all.
+    fn refuse(&mut self, plain: &[u8]) {
+        let given = self.to_seal(plain);
+        let (number, left) = self.seen.tally.make(Call::Seal, &given);
+        assert_eq!(number, 14);
+        assert!(left == given, "a refused seal wrote");
+        let sealed = sealed(&self.key, self.volume, self.address, plain);
+        self.judge("h zero", &sealed, Some(14));
+        for kind in Damage::KINDS {
+            let mut all = sealed.clone();
+            for place in Place::ALL {
+                let mut held = sealed.clone();
+                kind.apply(&mut self.rng, held.place_mut(place));
+                all.place_mut(place).clone_from(held.place_mut(place));
+                self.judge("h zero, damaged", &held, Some(14));
+            }
+            self.judge("h zero, damaged", &all, Some(14));
+        }
     }
 
     fn choose_plaintext(&mut self) -> Vec<u8> {
@@ -146,14 +177,18 @@ impl<'a> Trial<'a> {
         }
     }
 
-    fn seal(&mut self, plain: &[u8]) -> Sealed {
-        let given = Arguments {
+    fn to_seal(&self, plain: &[u8]) -> Arguments {
+        Arguments {
             plain: plain.to_vec(),
             local: vec![FILL; self.size],
             tag: vec![FILL; 16],
             remote: vec![FILL; self.size],
             ..self.arguments()
-        };
+        }
+    }
+
+    fn seal(&mut self, plain: &[u8]) -> Sealed {
+        let given = self.to_seal(plain);
         let (number, left) = self.seen.tally.make(Call::Seal, &given);
         assert_eq!(number, 0);
         Sealed {
@@ -183,8 +218,10 @@ impl<'a> Trial<'a> {
                 sector: sector.clone(),
                 ..given.clone()
             };
-            self.seen.tally.make(Call::Open, &given);
-            self.seen.tally.make(Call::Rebuild, &given);
+            for call in [Call::Open, Call::Rebuild] {
+                let (opened, _) = self.seen.tally.make(call, &given);
+                assert_eq!(opened == 14, number == 14, "{what}");
+            }
         }
     }
 
@@ -258,24 +295,29 @@ impl<'a> Trial<'a> {
         }
     }
 
-    /// One side of each of two plaintexts that share a tag.
+    /// One side of each of two plaintexts that share a tag, which takes two blocks.
+    /// Of one that begins with h, any bytes in block 2 of a side are such a side.
     fn clash(&mut self, plain: &[u8]) {
         let blocks = to_blocks(plain);
         if blocks.len() == 1 {
-            if self.h() == 0 {
-                let other = self.rng.bytes(16);
-                self.insist_on_clash(plain, &other);
-            }
             return;
         }
         let change = self.rng.next_u128();
         let (one, other) = blind_pair(self.h(), &blocks, change);
         self.insist_on_clash(&to_bytes(&one), &to_bytes(&other));
+        let sealed = self.seal(&to_bytes(&one));
+        for place in [Place::Local, Place::Remote] {
+            for kind in [Damage::Bit, Damage::Byte, Damage::Block] {
+                let mut held = sealed.clone();
+                kind.apply(&mut self.rng, &mut held.place_mut(place)[16..32]);
+                self.judge("a side of equal tag by damage", &held, Some(7));
+            }
+        }
         let other = to_blocks(&self.rng.bytes(self.size));
         match steer(self.h(), self.volume, self.address, &blocks, &other) {
             Some(other) => self.insist_on_clash(plain, &to_bytes(&other)),
-            // Where h^t and the tweak are both zero, their sum may be a factor.
-            None => assert_eq!((self.h(), self.volume, self.address), (0, 0, 0)),
+            // Where the tweak is a power of h, their sum may be a factor.
+            None => assert!(!self.h_is_random),
         }
     }
 
@@ -312,11 +354,12 @@ fn sectors_through_the_library() {
     seen.print();
     println!("{} sizes, {rounds} rounds", tried.len());
     assert!(tried.len() == 256 || rounds < ROUNDS_OF_ALL_SIZES);
-    // No call here is refused for a length or a number: refusals.rs has these.
-    seen.tally.insist_on(Call::Seal, &[0]);
-    let verdicts = [0, 0x81, 0x82, 0x83, 6, 7];
+    // No call here is refused for a length or a number: refusals.rs has these. Some
+    // are for an h of zero.
+    seen.tally.insist_on(Call::Seal, &[0, 14]);
+    let verdicts = [0, 0x81, 0x82, 0x83, 6, 7, 14];
     seen.tally.insist_on(Call::Judge, &verdicts);
-    seen.tally.insist_on(Call::Open, &[0, 5]);
-    seen.tally.insist_on(Call::Rebuild, &[0, 5]);
+    seen.tally.insist_on(Call::Open, &[0, 5, 14]);
+    seen.tally.insist_on(Call::Rebuild, &[0, 5, 14]);
     seen.tally.insist_on(Call::Combine, &[0]);
 }

@@ -77,14 +77,30 @@ fn key_and_size_are_refused_first() {
         };
         assert_eq!(survey(&given, &images, 0), Err(Refusal::SectorSize));
     }
+    for key in [vec![0; 32], [vec![0; 16], rng.bytes(16)].concat()] {
+        for (size, count) in [(15, 0), (15, 3), (32, 0), (32, 4), (32, 3)] {
+            let given = Given {
+                key: key.clone(),
+                size,
+                count,
+                ..good
+            };
+            for room in [0, 3] {
+                let found = survey(&given, &images, room);
+                assert_eq!(found, Err(Refusal::ZeroHashKey));
+            }
+        }
+    }
     for length in [0, 31, 33] {
-        let given = Given {
-            key: vec![1; length],
-            size: 15,
-            count: 0,
-            ..good
-        };
-        assert_eq!(survey(&given, &images, 0), Err(Refusal::KeyLength));
+        for byte in [0, 1] {
+            let given = Given {
+                key: vec![byte; length],
+                size: 15,
+                count: 0,
+                ..good
+            };
+            assert_eq!(survey(&given, &images, 0), Err(Refusal::KeyLength));
+        }
     }
 }
 
@@ -119,7 +135,7 @@ enum Kind {
     Lost,
 }
 
-/// Under any h but zero, from two blocks on.
+/// From two blocks on.
 const ALL_KINDS: [Kind; 6] = [
     Kind::Whole,
     Kind::Doubtful(Place::Local),
@@ -129,20 +145,12 @@ const ALL_KINDS: [Kind; 6] = [
     Kind::Lost,
 ];
 
-/// No two plaintexts of one block have equal tags, unless h is zero.
+/// No two plaintexts of one block have equal tags.
 const OF_ONE_BLOCK: [Kind; 5] = [
     Kind::Whole,
     Kind::Doubtful(Place::Local),
     Kind::Doubtful(Place::Tag),
     Kind::Doubtful(Place::Remote),
-    Kind::Lost,
-];
-
-/// Where h is zero all tags of an address are equal, and a damaged side clashes.
-const UNDER_H_ZERO: [Kind; 4] = [
-    Kind::Whole,
-    Kind::Doubtful(Place::Tag),
-    Kind::Clashing,
     Kind::Lost,
 ];
 
@@ -153,10 +161,6 @@ fn flip(rng: &mut Rng, bytes: &mut [u8]) {
 /// Two plaintexts of one tag.
 fn of_equal_tag(rng: &mut Rng, given: &Given) -> (Vec<u8>, Vec<u8>) {
     let (h, plaintext) = (to_block(&given.key[..16]), rng.bytes(given.size));
-    if given.size == 16 {
-        assert_eq!(h, 0);
-        return (plaintext, rng.bytes(16));
-    }
     let (one, other) = blind_pair(h, &to_blocks(&plaintext), rng.next_u128());
     (to_bytes(&one), to_bytes(&other))
 }
@@ -170,7 +174,12 @@ fn sector(rng: &mut Rng, given: &Given, number: usize, kind: Kind) -> Sealed {
         Kind::Clashing => {
             let (one, other) = of_equal_tag(rng, given);
             held = sealed(&one);
-            held.remote = sealed(&other).remote;
+            // Of these, any bytes in block 2 of a side are a side of equal tag too.
+            match rng.below(3) {
+                0 => held.remote = sealed(&other).remote,
+                1 => flip(rng, &mut held.local[16..32]),
+                _ => flip(rng, &mut held.remote[16..32]),
+            }
         }
         Kind::Lost => {
             let side = *rng.pick(&[Place::Local, Place::Remote]);
@@ -236,16 +245,13 @@ fn mixtures_in_repair_order() {
     for round in 0..rounds(4) {
         let mut rng = Rng::new(500 + round as u64);
         for count in [1, 2, 63, 64, 65, 127, 128, 129, 1000] {
-            for (size, h_is_zero, choice) in [
-                (16, false, &OF_ONE_BLOCK[..]),
-                (16, true, &UNDER_H_ZERO),
-                (32, false, &ALL_KINDS),
-                (512, false, &ALL_KINDS),
+            for (size, choice) in [
+                (16, &OF_ONE_BLOCK[..]),
+                (32, &ALL_KINDS),
+                (48, &ALL_KINDS),
+                (512, &ALL_KINDS),
             ] {
-                let mut key = rng.bytes(32);
-                if h_is_zero {
-                    key[..16].fill(0);
-                }
+                let key = rng.bytes(32);
                 let kinds: Vec<Kind> = (0..count).map(|_| *rng.pick(choice)).collect();
                 let (given, images) = of_kinds(&mut rng, key, size, &kinds);
                 insist_on_survey(&given, &images, &kinds, rng.below(3));
@@ -254,6 +260,26 @@ fn mixtures_in_repair_order() {
         }
     }
     println!("{surveys} surveys of mixed sectors agree");
+}
+
+/// Under an h of zero there is no survey, whatever the sectors are. The list, the
+/// counts and the map stay: both implementations are compared in that.
+#[test]
+fn none_under_h_zero() {
+    let mut rng = Rng::new(55);
+    for (size, choice) in [(16, &OF_ONE_BLOCK[..]), (32, &ALL_KINDS)] {
+        for count in [1, 64, 65, 1000] {
+            let kinds: Vec<Kind> = (0..count).map(|_| *rng.pick(choice)).collect();
+            for key in [[vec![0; 16], rng.bytes(16)].concat(), vec![0; 32]] {
+                let (given, images) = of_kinds(&mut rng, key, size, &kinds);
+                let mut list = vec![7; count];
+                let map = random_words(&mut rng, words(count));
+                let found = Both.survey(&given, &images, &map, &mut list);
+                assert_eq!(found, Err(Refusal::ZeroHashKey));
+                assert_eq!(list, vec![7; count]);
+            }
+        }
+    }
 }
 
 /// All sectors are of one kind, or all but one.

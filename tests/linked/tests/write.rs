@@ -44,5 +44,5 @@ fn any_state_of_all_sizes() {
     let writes: usize = answers.values().sum();
     println!("{writes} writes agree, also with their calls");
     let seen: Vec<u8> = answers.into_keys().collect();
-    assert_eq!(seen, [0, 6, 7, 0x81, 0x82, 0x83]);
+    assert_eq!(seen, [0, 6, 7, 14, 0x81, 0x82, 0x83]);
 }

@@ -1093,9 +1093,17 @@ pub fn insist_on_variety(tally: &Tally) {
     );
 }
 
-/// Under an h of zero every call of the volume's own came, was refused, also where
+/// Calls whose h is zero came to volumes with another key, and left every bit. And
+/// under an h of zero every call of the volume's own came, was refused, also where
 /// it would have been cut, and nothing was ever kept.
 pub fn insist_on_zero_h(tally: &Tally) {
+    for kind in KINDS {
+        for what in ["0e leaves a set bit", "0e leaves a clear bit"] {
+            let what = format!("{kind} {what}");
+            assert!(tally.get(&what) > 0, "{what}");
+        }
+    }
+    assert!(tally.get("Survey answers 0e") > 0);
     let get = |what: &str| tally.get(&format!("{UNDER_ZERO_H}{what}"));
     for kind in KINDS {
         for what in ["refused", "answers 0e", "0e leaves a set bit"] {

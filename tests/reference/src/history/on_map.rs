@@ -306,8 +306,6 @@ pub fn insist_on_marks(tally: &Tally) {
     }
     for call in KINDS {
         insist_on(tally, &format!("{call} answers 0d"));
-        insist_on(tally, &format!("{call} 0e leaves a set bit"));
-        insist_on(tally, &format!("{call} 0e leaves a clear bit"));
     }
     insist_on_calls_on_map(tally);
     for what in [
@@ -332,7 +330,7 @@ fn insist_on_calls_on_map(tally: &Tally) {
             insist_on(tally, &format!("{call} for {how} sectors"));
         }
     }
-    for answer in ["00", "0b", "0d", "0e"] {
+    for answer in ["00", "0b", "0d"] {
         insist_on(tally, &format!("Survey answers {answer}"));
     }
     insist_on(tally, "a count leaves out a set bit");
