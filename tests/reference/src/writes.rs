@@ -134,12 +134,12 @@ fn put_any_state(rng: &mut Rng, volume: &mut Volume, number: usize) -> Vec<u8> {
     for place in Place::ALL {
         let bytes = held.place_mut(place);
         match rng.below(10) {
-            0..=1 => bytes.copy_from_slice(rng.pick(&sealed).place(place)),
-            2 => {
+            0..=2 => bytes.copy_from_slice(rng.pick(&sealed).place(place)),
+            3 => {
                 let at = rng.below(bytes.len());
                 bytes[at] ^= 1 << rng.below(8);
             }
-            3 => rng.fill(bytes),
+            4 => rng.fill(bytes),
             _ => {}
         }
     }
@@ -149,7 +149,7 @@ fn put_any_state(rng: &mut Rng, volume: &mut Volume, number: usize) -> Vec<u8> {
     rng.pick(&[one, two, three, another]).clone()
 }
 
-/// Three plaintexts, of which the last two, or now and then all, have one tag where
+/// Three plaintexts, of which the last two, and mostly all, have one tag where
 /// there are two blocks.
 fn plaintexts(rng: &mut Rng, key: &[u8], size: usize) -> [Vec<u8>; 3] {
     let [one, two, three] = [(); 3].map(|()| rng.bytes(size));
@@ -160,7 +160,7 @@ fn plaintexts(rng: &mut Rng, key: &[u8], size: usize) -> [Vec<u8>; 3] {
     let two = to_blocks(&two);
     let of_equal_tag = |rng: &mut Rng| to_bytes(&blind_pair(h, &two, rng.next_u128()).1);
     let three = of_equal_tag(rng);
-    let one = if rng.chance(30) {
+    let one = if rng.chance(70) {
         of_equal_tag(rng)
     } else {
         one
