@@ -6,7 +6,8 @@
  * volume's number and an address. Any two of them give the plaintext back, so damage to one place is found and can be mended, unless
  * another plaintext happens to fit two places as well (clashing). A plaintext FITS a place if sealing it gives the bytes that are there.
  *
- *   key        32 bytes: the hash key h (16 bytes), then the AES-128 key K (16 bytes). Choosing both is the caller's part; see SECRETS.
+ *   key        32 bytes: the hash key h (16 bytes, not all of them zero), then the AES-128 key K (16 bytes). Choosing both at random is the
+ *              caller's part; see SECRETS.
  *   sector     s bytes, s a multiple of 16 from 16 to 4,096; the plaintext, the local and the remote sector all have s bytes
  *   tag        16 bytes
  *   address    any 64-bit number; a sector is judged at the address that it was sealed at
@@ -26,8 +27,8 @@
  * If pkg-config does not find mirror, it does not search this prefix: export PKG_CONFIG_PATH=PREFIX/lib/pkgconfig. Without pkg-config it
  * is `cc -IPREFIX/include program.c PREFIX/lib/libmirror.a`.
  *
- * ANSWERS. Each call returns one number: 0 or MIRROR_DOUBTFUL_... when it is done, or a refusal, MIRROR_REFUSED_..., from 1 to 11 or 13
- * (12 is the program frames's own). The refusals of a call are checked in the order in which they stand at it below, and the first that
+ * ANSWERS. Each call returns one number: 0 or MIRROR_DOUBTFUL_... when it is done, or a refusal, MIRROR_REFUSED_..., from 1 to 11, 13 or
+ * 14 (12 is the program frames's own). The refusals of a call are checked in the order in which they stand at it below, and the first that
  * holds is the answer. A refused call has changed none of the bytes that it was lent, with one exception: a mirror_read, mirror_mend or
  * mirror_write that refuses 6 or 7 has set its sector's bit in the map, and changed nothing else. `out` is written when the answer is
  * certain, and all of it. Always look at the answer: after a refusal `out` is what it was before. mirror_text gives a text for each answer.
@@ -80,7 +81,10 @@
  *
  * SECRETS. What an attacker can guess, forge or measure is no claim of this library; SECURITY.md in the source tree says more.
  *   - Local and remote sector together give the plaintext WITHOUT the key (mirror_combine): whoever may read both needs no key.
- *   - h must not be zero. All plaintexts would have one tag, and a sector with a damaged side would clash. No call checks this.
+ *   - h must not be zero. All plaintexts would have one tag, a sector with a damaged side would clash, and whoever sees one side and knows
+ *     one sector's plaintext could read the other sectors. Since 0.8.0 every call with a key refuses it, with 14. That is all that a call
+ *     checks of a key's bytes: any other key is accepted, however weak, one with K zero or a single bit of h set, or one that somebody can
+ *     guess. Choose all 32 bytes at random.
  *   - One key and number belong to one volume: give each volume under a key a number of its own, and never use it again for another
  *     volume under that key. Key, number, address and plaintext alone decide all bytes: two volumes under one key and one number have equal
  *     bytes for equal plaintexts at equal addresses, and a sector of one is accepted in the other, at the same address. Also in one volume
@@ -109,11 +113,17 @@
  *     order in which the calls store, a tag landing whole; or all three images are saved between calls, in one step that is done whole or
  *     not at all.
  *
- * FROM 0.6.0 AND 0.5.0. mirror_write is new, and mirror_is_refusal; no other call and no stored byte changes, and no program has to be
- * changed. Compile it again with this header: mirror_version() is compared with MIRROR_VERSION, and the library answers the new number.
+ * FROM 0.7.0. A key whose h is zero is refused: every call with a key answers 14 then, before every other refusal but 1. Under any other
+ * key each answer and each stored byte is as before, and so are the calls without a key. A program that uses no key with h zero does not
+ * have to be changed. Compile it again with this header: mirror_version() is compared with MIRROR_VERSION, and the library answers the new
+ * number. A program whose key has h zero gets 14 from every call with a key. What is sealed under that key stays as it is, and needs a
+ * release before 0.8.0: read it with such a one, and write it with this one to a new volume, under a new key. Both libraries have the same
+ * function names, so that takes two programs; docs/OPERATORS.md in the source tree has the steps, under "Data under a zero hash key".
  *
- * FROM 0.4.0, and from 0.3.0, which has the same calls. Every call on a volume takes the map: `map, map_len` behind `remote_len`. No stored
- * byte changes. A program has to do this:
+ * FROM 0.6.0 AND 0.5.0. Besides that, mirror_write is new, and mirror_is_refusal; no other call changes.
+ *
+ * FROM 0.4.0, and from 0.3.0, which has the same calls. Besides that, every call on a volume takes the map: `map, map_len` behind
+ * `remote_len`. No stored byte changes. A program has to do this:
  *   - Lend MIRROR_MAP_WORDS(n) words for each volume, and start the map once, when the volume is opened. All its sectors are suspect then,
  *     and reading or mending them clears.
  *   - Name the two new fields of struct mirror_volume, `map` and `map_len`. Left out of an initialiser with named fields they are 0: the
@@ -148,8 +158,8 @@
 #include <stdint.h>
 
 /* The release that this header is of: a number, major*1000000 + minor*1000 + patch, which #if can compare, and the same as a text. */
-#define MIRROR_VERSION 7000
-#define MIRROR_VERSION_TEXT "0.7.0"
+#define MIRROR_VERSION 8000
+#define MIRROR_VERSION_TEXT "0.8.0"
 
 /* Sizes in bytes, and the sectors of the largest volume. */
 #define MIRROR_KEY_BYTES 32
@@ -174,26 +184,29 @@
 #define MIRROR_DOUBTFUL_REMOTE 0x83u /* the same, and it does not fit the remote sector */
 
 /* Refusals, with what to do. */
-#define MIRROR_REFUSED_KEY_LENGTH 1u    /* the key does not have 32 bytes: give h and then K */
-#define MIRROR_REFUSED_SECTOR_SIZE 2u   /* the size is not a multiple of 16 from 16 to 4,096: give the size that the sector or the
-                                           volume was made with */
-#define MIRROR_REFUSED_OTHER_LENGTH 3u  /* a plaintext, a sector, a tag or an output has another length than it must have: give s bytes,
-                                           16 for a tag */
-#define MIRROR_REFUSED_UNKNOWN_SIDE 4u  /* the side is neither MIRROR_SIDE_LOCAL nor MIRROR_SIDE_REMOTE: name one of them */
-#define MIRROR_REFUSED_NONE_FITS 5u     /* no plaintext fits this side and this tag: see that key, volume's number and address
-                                           are the sector's; then try the other side, or judge if both are there */
-#define MIRROR_REFUSED_LOST 6u          /* no plaintext fits two places: check the key and the volume's number on other sectors; if they
-                                           are right, blank, and write from a backup */
-#define MIRROR_REFUSED_CLASHING 7u      /* more than one plaintext fits two places: if a write was under way, go on with its second and
-                                           third stage (if the second refuses 10, see "After a cut in separate stages" or "After a cut
-                                           in mirror_write" below); otherwise open each side, combine both, choose, blank, and write
-                                           the choice */
-#define MIRROR_REFUSED_VOLUME_SHAPE 8u  /* n is not 1 to 65,536, or an image has another length than s and n ask for: check s, n and the
-                                           images */
-#define MIRROR_REFUSED_SECTOR_NUMBER 9u /* the sector's number is not below n: sectors count from 0 */
-#define MIRROR_REFUSED_STAGE_ORDER 10u  /* this stage is not due: read the sector, mend it if doubtful, and begin with the first stage */
-#define MIRROR_REFUSED_LIST_LENGTH 11u  /* the list is shorter than n: lend one entry for each sector */
-#define MIRROR_REFUSED_MAP_LENGTH 13u   /* the map does not have exactly (n+63)/64 words: lend MIRROR_MAP_WORDS(n), and start it */
+#define MIRROR_REFUSED_KEY_LENGTH 1u     /* the key does not have 32 bytes: give h and then K */
+#define MIRROR_REFUSED_SECTOR_SIZE 2u    /* the size is not a multiple of 16 from 16 to 4,096: give the size that the sector or the
+                                            volume was made with */
+#define MIRROR_REFUSED_OTHER_LENGTH 3u   /* a plaintext, a sector, a tag or an output has another length than it must have: give s bytes,
+                                            16 for a tag */
+#define MIRROR_REFUSED_UNKNOWN_SIDE 4u   /* the side is neither MIRROR_SIDE_LOCAL nor MIRROR_SIDE_REMOTE: name one of them */
+#define MIRROR_REFUSED_NONE_FITS 5u      /* no plaintext fits this side and this tag: see that key, volume's number and address
+                                            are the sector's; then try the other side, or judge if both are there */
+#define MIRROR_REFUSED_LOST 6u           /* no plaintext fits two places: check the key and the volume's number on other sectors; if they
+                                            are right, blank, and write from a backup */
+#define MIRROR_REFUSED_CLASHING 7u       /* more than one plaintext fits two places: if a write was under way, go on with its second and
+                                            third stage (if the second refuses 10, see "After a cut in separate stages" or "After a cut
+                                            in mirror_write" below); otherwise open each side, combine both, choose, blank, and write
+                                            the choice */
+#define MIRROR_REFUSED_VOLUME_SHAPE 8u   /* n is not 1 to 65,536, or an image has another length than s and n ask for: check s, n and the
+                                            images */
+#define MIRROR_REFUSED_SECTOR_NUMBER 9u  /* the sector's number is not below n: sectors count from 0 */
+#define MIRROR_REFUSED_STAGE_ORDER 10u   /* this stage is not due: read the sector, mend it if doubtful, and begin with the first stage */
+#define MIRROR_REFUSED_LIST_LENGTH 11u   /* the list is shorter than n: lend one entry for each sector */
+#define MIRROR_REFUSED_MAP_LENGTH 13u    /* the map does not have exactly (n+63)/64 words: lend MIRROR_MAP_WORDS(n), and start it */
+#define MIRROR_REFUSED_ZERO_HASH_KEY 14u /* the hash key h, the first 16 bytes, is all zero: see that the key was loaded, and give a new
+                                            volume a key of 32 random bytes; what was sealed under this one needs a release before
+                                            0.8.0, see FROM 0.7.0 */
 
 /*
  * What a survey puts into counts[]: four counts that add up to n, and the health, which is whole * 1000 / n, rounded down. The list has the
@@ -231,6 +244,7 @@ uint32_t mirror_version(void);
 /*
  * Seals the plaintext under key, volume's number and address: writes local, tag and remote.
  *   1 key_len is not 32
+ *   14 h, the first 16 bytes of key, is all zero
  *   2 plain_len is not a sector size
  *   3 local_len or remote_len is not plain_len, or tag_len is not 16
  *   MIRROR_DONE
@@ -242,6 +256,7 @@ MIRROR_ANSWER mirror_seal(const uint8_t *key, size_t key_len, uint64_t volume, u
  * Judges a sector and writes its plaintext to out. It mends nothing: after MIRROR_DOUBTFUL_... seal the plaintext again, under the same
  * number and address, and write the place that the answer names.
  *   1 key_len is not 32
+ *   14 h, the first 16 bytes of key, is all zero
  *   2 local_len is not a sector size
  *   3 remote_len or out_len is not local_len, or tag_len is not 16
  *   6 lost
@@ -254,6 +269,7 @@ MIRROR_ANSWER mirror_judge(const uint8_t *key, size_t key_len, uint64_t volume, 
 /*
  * Opens one side with the tag, where the other side is not at hand: writes to out the one plaintext that fits both.
  *   1 key_len is not 32
+ *   14 h, the first 16 bytes of key, is all zero
  *   2 sector_len is not a sector size
  *   3 tag_len is not 16, or out_len is not sector_len
  *   4 side is neither MIRROR_SIDE_LOCAL nor MIRROR_SIDE_REMOTE
@@ -266,7 +282,7 @@ MIRROR_ANSWER mirror_open(const uint8_t *key, size_t key_len, uint64_t volume, u
 /*
  * Rebuilds the other side: `side` says which one `sector` is, and out is given the sector of the side that is missing. Refuses as
  * mirror_open does.
- *   1, 2, 3, 4, 5 as mirror_open
+ *   1, 14, 2, 3, 4, 5 as mirror_open
  *   MIRROR_DONE
  */
 MIRROR_ANSWER mirror_rebuild(const uint8_t *key, size_t key_len, uint64_t volume, uint64_t address, uint32_t side, const uint8_t *sector,
@@ -305,6 +321,7 @@ MIRROR_ANSWER mirror_count_suspects(size_t n, const uint64_t *map, size_t map_le
  * Blanks one sector: seals a plaintext of s zeros into its part of all three images, whatever was there. Each sector of a new volume is
  * blanked before its first write. A cut leaves anything in the sector: blank it again.
  *   1 key_len is not 32
+ *   14 h, the first 16 bytes of key, is all zero
  *   2 s is not a sector size
  *   8 n is not 1 to 65,536, local_len or remote_len is not n*s, or tags_len is not n*16
  *   13 map_len is not MIRROR_MAP_WORDS(n)
@@ -334,7 +351,7 @@ MIRROR_ANSWER mirror_blank(const uint8_t *key, size_t key_len, uint64_t volume, 
  * Second stage: writes the tag. 10 if the plaintext does not fit the local sector.
  * Third stage: writes the remote sector. 10 if the plaintext does not fit both local sector and tag.
  * After 10 from the second or third: read the sector, mend it if doubtful, and begin again with the first stage.
- *   1, 2, 8, 13, 9 as mirror_blank
+ *   1, 14, 2, 8, 13, 9 as mirror_blank
  *   3 plain_len is not s
  *   10 the stage is not due: the map is left alone, whatever the sector's state
  *   MIRROR_DONE: the sector's bit in the map is set by the first and the second stage, and cleared by the third
@@ -352,7 +369,7 @@ MIRROR_ANSWER mirror_third_stage(const uint8_t *key, size_t key_len, uint64_t vo
 /*
  * Reads one sector: judges it and writes its plaintext to out. It mends nothing: after MIRROR_DOUBTFUL_... call mirror_mend soon, for
  * damage to a second place can lose the sector.
- *   1, 2, 8, 13, 9 as mirror_blank
+ *   1, 14, 2, 8, 13, 9 as mirror_blank
  *   3 out_len is not s
  *   6 lost: the sector's bit in the map is set, and nothing else has changed
  *   7 clashing: the same
@@ -367,7 +384,7 @@ MIRROR_ANSWER mirror_read(const uint8_t *key, size_t key_len, uint64_t volume, s
  * Mends one sector: writes the doubtful place anew, as the one plaintext seals, and nothing if the sector is whole. The answer is what it
  * found before; afterwards the sector is whole. Where it refuses 6 or 7 it has written nothing but the sector's bit in the map. Write out
  * the place that the answer names. After a cut: mend again.
- *   1, 2, 8, 13, 9 as mirror_blank
+ *   1, 14, 2, 8, 13, 9 as mirror_blank
  *   6 lost: the sector's bit in the map is set, and nothing else has changed
  *   7 clashing: the same
  *   MIRROR_WHOLE: no image is written, and the bit is cleared
@@ -412,7 +429,7 @@ MIRROR_ANSWER mirror_mend(const uint8_t *key, size_t key_len, uint64_t volume, s
  *   - To have what is kept: mirror_open of each side with the tag gives it. If one side refuses 5, it is what the other gives. If both give
  *     a plaintext, only somebody who knows the data can tell which it is; if nobody does, take a backup. Then mirror_rebuild from the side
  *     that gave it: with the other side so made the sector is whole.
- *   1, 2, 8, 13, 9 as mirror_blank
+ *   1, 14, 2, 8, 13, 9 as mirror_blank
  *   3 plain_len is not s
  *   6 lost, as is a sector that was never blanked: the sector's bit in the map is set, and nothing else has changed
  *   7 clashing: the same
@@ -432,7 +449,7 @@ MIRROR_ANSWER mirror_write(const uint8_t *key, size_t key_len, uint64_t volume, 
  * clashing ones, the next counts[MIRROR_COUNT_DOUBTFUL] the doubtful ones; within a kind the numbers rise. So no read is needed to tell the
  * kinds, and the list is one value for a key, a volume's number and three images. The clashing ones begin at
  * list + counts[MIRROR_COUNT_LOST], the doubtful ones counts[MIRROR_COUNT_CLASHING] entries behind that.
- *   1, 2, 8, 13 as mirror_blank
+ *   1, 14, 2, 8, 13 as mirror_blank
  *   11 list_len is below n
  *   MIRROR_DONE: go by MIRROR_REFUSED_LOST and MIRROR_REFUSED_CLASHING above for the lost and the clashing sectors, and mend the doubtful.
  *       If counts[MIRROR_COUNT_WHOLE] is 0 the key or the volume's number may be wrong: look for the right ones before anything is
@@ -489,6 +506,10 @@ static inline const char *mirror_text(uint32_t answer)
     case MIRROR_REFUSED_MAP_LENGTH:
         return "the map does not have exactly as many 64-bit words as the count needs: "
                "lend one word for each 64 sectors begun, and start it";
+    case MIRROR_REFUSED_ZERO_HASH_KEY:
+        return "the hash key, the first 16 bytes of the key, is all zero: "
+               "see that the key was loaded, and give a new volume a key of 32 random bytes; "
+               "what was sealed under this key needs a release before 0.8.0";
     case MIRROR_DOUBTFUL_LOCAL:
         return "doubtful at the local sector";
     case MIRROR_DOUBTFUL_TAG:
