@@ -264,6 +264,7 @@ static void refusals(void)
     IS(MIRROR_REFUSED_STAGE_ORDER, 10);
     IS(MIRROR_REFUSED_LIST_LENGTH, 11);
     IS(MIRROR_REFUSED_MAP_LENGTH, 13);
+    IS(MIRROR_REFUSED_ZERO_HASH_KEY, 14);
 }
 
 /* Header and library are of one release, and the header's number and text are. */
@@ -279,7 +280,7 @@ static void version(void)
 
 static int is_answer(uint32_t number)
 {
-    return number <= MIRROR_REFUSED_LIST_LENGTH || number == MIRROR_REFUSED_MAP_LENGTH ||
+    return number <= MIRROR_REFUSED_LIST_LENGTH || number == MIRROR_REFUSED_MAP_LENGTH || number == MIRROR_REFUSED_ZERO_HASH_KEY ||
            (number >= MIRROR_DOUBTFUL_LOCAL && number <= MIRROR_DOUBTFUL_REMOTE);
 }
 
@@ -770,7 +771,7 @@ static void surveys(void)
 
 static void every_answer(void)
 {
-    static const uint8_t ANSWERS[] = {0, 1, 2, 3, 4, 5, 6, 7, 8, 9, 10, 11, 13, 0x81, 0x82, 0x83};
+    static const uint8_t ANSWERS[] = {0, 1, 2, 3, 4, 5, 6, 7, 8, 9, 10, 11, 13, 14, 0x81, 0x82, 0x83};
     size_t i;
     for (i = 0; i < sizeof ANSWERS; i++) {
         char what[32];
@@ -819,10 +820,11 @@ int main(void)
     mends();
     writes();
     surveys();
+    zero_hash_keys();
     every_answer();
     maps();
     volumes();
     free_all();
-    printf("calls: %u checks hold, and each of the 16 answers came\n", checks);
+    printf("calls: %u checks hold, and each of the 17 answers came\n", checks);
     return 0;
 }

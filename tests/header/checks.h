@@ -16,6 +16,9 @@ uint8_t *heap(size_t length);
 /* The map at counts of sectors around the bounds of a word. (map.c) */
 void maps(void);
 
+/* Each call with a key, under a key whose first 16 bytes are zero. (zero.c) */
+void zero_hash_keys(void);
+
 /* Each function over struct mirror_volume against the call of its name. (volume.c) */
 void volumes(void);
 

@@ -1,7 +1,7 @@
 /*
  * A program for tests/check_work, which counts by callgrind how often each call here expands a key and encrypts a block: makes the calls of
- * the library, at four sizes and in eight states of a sector, and prints a line for each. What a call needs is
- * made before it, and the call alone is made within `measured`: so what is counted from entering that function to leaving it is the call's.
+ * the library, at four sizes and in eight states of a sector, and prints a line for each. What a call needs is made before it, and the call
+ * alone is made within `measured`: so what is counted from entering that function to leaving it is the call's.
  */
 #include "mirror.h"
 
@@ -76,16 +76,13 @@ static uint32_t seal_at(size_t i, const uint8_t *text)
 
 static void seal_old(size_t i) { need(seal_at(i, old), MIRROR_DONE, "sealing", "before a call"); }
 
-/* Two plaintexts that begin with h and differ in block 2 only have one tag; with one block any two have, where h is zero. */
+/* Two plaintexts that begin with h and differ in block 2 only have one tag. */
 static void clash(void)
 {
-    if (v.s == TAG) {
-        memset(key, 0, TAG);
-    }
     memcpy(old, key, TAG);
     seal_old(AT);
     memcpy(out, remote + AT * v.s, v.s);
-    old[v.s == TAG ? 0 : TAG] ^= 1;
+    old[TAG] ^= 1;
     seal_old(AT);
     memcpy(remote + AT * v.s, out, v.s);
 }
@@ -103,11 +100,13 @@ static void damage(size_t i, enum state state)
     }
 }
 
-/* The whole volume is sealed only where the state is the volume's, which saves time: the other calls look at one sector. */
+/* The whole volume is sealed only where the state is the volume's, which saves time: the other calls look at one sector. No two plaintexts
+ * of one block have one tag, so where the other states have a block the clashing sector has two. */
 static void make(size_t s, enum state state)
 {
     const size_t begin = state < ALONE ? AT : 0, end = state < ALONE ? AT + 1 : SECTORS;
     size_t i;
+    s += state == CLASHING && s == TAG ? TAG : 0;
     now = state;
     less = 0;
     shape(s, state == ALONE ? 1 : SECTORS);
@@ -226,7 +225,8 @@ static const struct {
     {"survey of 16 sectors, 4 damaged", survey, SOME_DAMAGED, SOME_DAMAGED, MIRROR_DONE},
 };
 
-/* The calls with a key, and what they refuse where the last argument that they check is wrong. */
+/* The calls with a key, and what they refuse where the last argument that they check is wrong. Each is refused for its key too: by its
+ * length, and where h is zero. */
 static const struct {
     const char *name;
     uint32_t (*call)(void);
@@ -283,6 +283,9 @@ static void run_refused(size_t s)
         make(s, WHOLE);
         v.key_len--;
         run(row, keyed[i].name, keyed[i].call, MIRROR_REFUSED_KEY_LENGTH);
+        make(s, WHOLE);
+        memset(key, 0, TAG);
+        run(row, keyed[i].name, keyed[i].call, MIRROR_REFUSED_ZERO_HASH_KEY);
         make(s, WHOLE);
         less = 1;
         run(row, keyed[i].name, keyed[i].call, keyed[i].due);

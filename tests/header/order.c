@@ -202,13 +202,12 @@ static void seal(struct sealed *to)
     }
 }
 
-/* Two plaintexts that begin with h and differ in block 2 only have one tag; with one block any two have, where h is zero. */
+/* Two plaintexts that begin with h and differ in block 2 only have one tag. */
 static void clash(void)
 {
-    memset(key, 0, v.s == TAG_BYTES ? TAG_BYTES : 0);
     memcpy(old.plain, key, TAG_BYTES);
     other = old;
-    other.plain[v.s == TAG_BYTES ? 0 : TAG_BYTES] ^= 1;
+    other.plain[TAG_BYTES] ^= 1;
     seal(&old), seal(&other);
     start = other;
     memcpy(start.at[LOCAL], old.at[LOCAL], v.s);
@@ -233,10 +232,12 @@ static void make_start(const struct state *state)
     }
 }
 
-/* Random bytes everywhere, and the sector among them in its state. */
+/* Random bytes everywhere, and the sector among them in its state. No two plaintexts of one block have one tag, so where the other states
+ * have a block the clashing sector has two. */
 static void make(size_t s, size_t sector, const struct state *state)
 {
     size_t place;
+    s += state->verdict == MIRROR_REFUSED_CLASHING && s == TAG_BYTES ? TAG_BYTES : 0;
     v = (struct mirror_volume){.key = key, .key_len = sizeof key, .volume = VOLUME, .s = s, .n = SECTORS,
                                .local = rooms[LOCAL] + PAGE, .local_len = SECTORS * s, .tags = rooms[TAG] + PAGE,
                                .tags_len = SECTORS * TAG_BYTES, .remote = rooms[REMOTE] + PAGE, .remote_len = SECTORS * s,
@@ -375,6 +376,26 @@ static void try_refused(size_t s)
     }
 }
 
+/* Each call, under a key whose h is zero: in a state where it would be accepted, and all but the read would store. */
+static void try_zero_hash_key(size_t s)
+{
+    static const struct row rows[] = {{"write, h zero", write_sector, WHOLE, "", &new, MIRROR_REFUSED_ZERO_HASH_KEY},
+                                      {"write, h zero", write_sector, AT_REMOTE, "", &new, MIRROR_REFUSED_ZERO_HASH_KEY},
+                                      {"blank, h zero", blank, WHOLE, "", &zeros, MIRROR_REFUSED_ZERO_HASH_KEY},
+                                      {"first stage, h zero", first_stage, WHOLE, "", &new, MIRROR_REFUSED_ZERO_HASH_KEY},
+                                      {"second stage, h zero", second_stage, FIRST_SAME, "", &new, MIRROR_REFUSED_ZERO_HASH_KEY},
+                                      {"third stage, h zero", third_stage, SECOND_SAME, "", &new, MIRROR_REFUSED_ZERO_HASH_KEY},
+                                      {"read, h zero", read_sector, WHOLE, "", &old, MIRROR_REFUSED_ZERO_HASH_KEY},
+                                      {"mend, h zero", mend, AT_LOCAL, "", &old, MIRROR_REFUSED_ZERO_HASH_KEY}};
+    size_t i;
+    for (i = 0; i < sizeof rows / sizeof rows[0]; i++) {
+        make(s, i % SECTORS, &states[rows[i].state]);
+        memset(key, 0, TAG_BYTES);
+        watched(rows[i].call, rows[i].order, rows[i].to, rows[i].due);
+        need(0, &rows[i]);
+    }
+}
+
 /* The other calls on a sector: each of them but blank, which may store in any order, stores to one place at most, and a read to none. */
 static void try_others(size_t s)
 {
@@ -438,6 +459,7 @@ int main(void)
     for (i = 0; i < sizeof sizes / sizeof sizes[0]; i++) {
         try_write(sizes[i]);
         try_refused(sizes[i]);
+        try_zero_hash_key(sizes[i]);
         try_others(sizes[i]);
     }
     printf("check_order: %lu stores in %lu calls, all in the order that is due; %lu power cuts before, between and behind them lose nothing, "

@@ -14,8 +14,9 @@ enum { VOLUME = 5, SIZE = 32, COUNT = 3, NUMBER = 1, FEWER = 16 };
 
 /* ---- the buffers: as they are before, as the call leaves them, and as the function over the struct does */
 
-enum { KEY, LOCAL, TAGS, REMOTE, MAP, PLAIN, OUT, LIST, COUNTS, SUSPECTS, BUFFERS };
+enum { KEY, ZERO_KEY, LOCAL, TAGS, REMOTE, MAP, PLAIN, OUT, LIST, COUNTS, SUSPECTS, BUFFERS };
 static const size_t LENGTHS[BUFFERS] = {MIRROR_KEY_BYTES,
+                                        MIRROR_KEY_BYTES, /* with a hash key of zeros */
                                         COUNT * SIZE,
                                         COUNT * MIRROR_TAG_BYTES,
                                         COUNT * SIZE,
@@ -35,6 +36,7 @@ static void take(Buffers *b)
     for (i = 0; i < BUFFERS; i++) {
         b->at[i] = heap(LENGTHS[i]);
     }
+    memset(b->at[ZERO_KEY], 0, MIRROR_KEY_BYTES / 2);
 }
 
 static void give_back(Buffers *b)
@@ -138,14 +140,17 @@ static uint32_t by_struct(int which, const struct mirror_volume *v, const Others
 
 /* ---- what is wrong: nothing, a field of the struct, or another argument */
 
-enum { NOTHING, KEY_LEN, NO_NUMBER, S, NO_SECTORS, MORE_SECTORS, LOCAL_LEN, TAGS_LEN, REMOTE_LEN, NO_MAP, FIELDS };
+enum { NOTHING, KEY_LEN, NO_HASH_KEY, NO_NUMBER, S, NO_SECTORS, MORE_SECTORS, LOCAL_LEN, TAGS_LEN, REMOTE_LEN, NO_MAP, FIELDS };
 enum { OTHER_NUMBER = 1, PLAIN_LEN, OUT_LEN, LIST_LEN, OTHERS };
 
-static void spoil(struct mirror_volume *v, int field)
+static void spoil(struct mirror_volume *v, int field, const Buffers *b)
 {
     switch (field) {
     case KEY_LEN:
         v->key_len = FEWER;
+        break;
+    case NO_HASH_KEY:
+        v->key = b->at[ZERO_KEY];
         break;
     case NO_NUMBER: /* as where a program does not name the field */
         v->volume = 0;
@@ -311,8 +316,8 @@ static void compare(int which, int field, int wrong)
     size_t i;
     copy(&before, &called);
     copy(&before, &structured);
-    spoil(&v, field);
-    spoil(&w, field);
+    spoil(&v, field, &called);
+    spoil(&w, field, &structured);
     kept = w;
     answer = by_call(which, v, &o, &called);
     met[which][answer & 0xff] = 1;
@@ -376,14 +381,14 @@ static void hands_on(int which)
 /* Each function has met all that its call can answer. The lists end with zeros: done, or whole. */
 static void each_answer(void)
 {
-    static const uint8_t ANSWERS[CALLS][12] = {{1, 2, 8, 13, 9},
-                                               {1, 2, 8, 13, 9, 3, 10},
-                                               {1, 2, 8, 13, 9, 3, 10},
-                                               {1, 2, 8, 13, 9, 3, 10},
-                                               {1, 2, 8, 13, 9, 3, 6, 7, 0x81, 0x82, 0x83},
-                                               {1, 2, 8, 13, 9, 6, 7, 0x81, 0x82, 0x83},
-                                               {1, 2, 8, 13, 9, 3, 6, 7, 0x81, 0x82, 0x83},
-                                               {1, 2, 8, 13, 11},
+    static const uint8_t ANSWERS[CALLS][13] = {{1, 14, 2, 8, 13, 9},
+                                               {1, 14, 2, 8, 13, 9, 3, 10},
+                                               {1, 14, 2, 8, 13, 9, 3, 10},
+                                               {1, 14, 2, 8, 13, 9, 3, 10},
+                                               {1, 14, 2, 8, 13, 9, 3, 6, 7, 0x81, 0x82, 0x83},
+                                               {1, 14, 2, 8, 13, 9, 6, 7, 0x81, 0x82, 0x83},
+                                               {1, 14, 2, 8, 13, 9, 3, 6, 7, 0x81, 0x82, 0x83},
+                                               {1, 14, 2, 8, 13, 11},
                                                {8, 13},
                                                {8, 13}};
     size_t which, i;
