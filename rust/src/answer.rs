@@ -117,6 +117,10 @@ pub enum Refusal {
     /// 13: the map does not have exactly as many 64-bit words as the count needs;
     /// [`map_words`](crate::map_words) says how many.
     MapLength = 13,
+    /// 14: the hash key, the first 16 bytes of the key, is all zero. Each call with
+    /// a key checks it directly after [`KeyLength`](Self::KeyLength). See
+    /// [secrets](crate#secrets) for why, and for what was sealed under such a key.
+    ZeroHashKey = 14,
 }
 
 impl Refusal {
@@ -134,9 +138,10 @@ impl Refusal {
         Refusal::StageOrder,
         Refusal::ListLength,
         Refusal::MapLength,
+        Refusal::ZeroHashKey,
     ];
 
-    /// The library's number: 1 to 11, or 13. The 12 is no call's: with it the
+    /// The library's number: 1 to 11, 13 or 14. The 12 is no call's: with it the
     /// program `frames` answers what is no frame.
     pub fn number(self) -> u32 {
         self as u32
@@ -167,6 +172,7 @@ impl Refusal {
             Refusal::MapLength => {
                 "the map does not have exactly as many 64-bit words as the count needs"
             }
+            Refusal::ZeroHashKey => "the hash key, the first 16 bytes of the key, is all zero",
         }
     }
 
@@ -197,6 +203,10 @@ impl Refusal {
             }
             Refusal::ListLength => "lend one entry for each sector",
             Refusal::MapLength => "lend one word for each 64 sectors begun, and start it",
+            Refusal::ZeroHashKey => {
+                "see that the key was loaded, and give a new volume a key of 32 random bytes; \
+                 what was sealed under this key needs a release before 0.8.0"
+            }
         }
     }
 }

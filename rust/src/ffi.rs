@@ -1,7 +1,7 @@
 //! The library's functions as `include/mirror.h` declares them.
 //!
 //! Each call is unsafe, and gives the number of its answer: 0, hexadecimal 81, 82
-//! or 83, or a refusal, 1 to 11 or 13. Places come in the order local, tag,
+//! or 83, or a refusal, 1 to 11, 13 or 14. Places come in the order local, tag,
 //! remote, and behind them comes the map of suspects, its length in 64-bit words.
 //! `volume` is the volume's number, and `number` that of a sector.
 //! The functions at the root of this crate and the methods of

@@ -11,7 +11,7 @@
 //!
 //! | what | how many bytes |
 //! |---|---|
-//! | key | 32: the hash key h (not zeros: all tags would be equal), then the AES-128 key |
+//! | key | 32, at random: the hash key h, 16 bytes (not all zero, which is [refused](Refusal::ZeroHashKey)), then the AES-128 key |
 //! | plaintext, local sector, remote sector | the size, a multiple of 16 from 16 to 4,096 |
 //! | tag | 16 |
 //! | images of a volume of n sectors, n from 1 to 65,536 | local and remote n times the size, tags n times 16 |
@@ -252,13 +252,21 @@
 //! # Secrets
 //!
 //! Local and remote sector together give the plaintext **without** the key
-//! ([`combine`]). The hash key must not be zero; no call checks that. One key and
-//! number belong to one volume: key, number, address and plaintext alone decide all
-//! bytes, so under one key and one number equal sectors at equal addresses look
-//! equal, and a sector of one volume is accepted in the other. The number is not
-//! secret, and no key. A call does not wipe what it leaves on the stack, and its
-//! time depends on secret bits. What an attacker can guess or forge is no claim of
-//! the library.
+//! ([`combine`]). One key and number belong to one volume: key, number, address and
+//! plaintext alone decide all bytes, so under one key and one number equal sectors
+//! at equal addresses look equal, and a sector of one volume is accepted in the
+//! other. The number is not secret, and no key. A call does not wipe what it leaves
+//! on the stack, and its time depends on secret bits. What an attacker can guess or
+//! forge is no claim of the library.
+//!
+//! The hash key, the first 16 bytes of a key, must not be zero: all plaintexts would
+//! have one tag, a sector with a damaged side would clash, and whoever sees one side
+//! and knows one sector's plaintext could read the other sectors. Since release 0.8.0
+//! every call with a key answers [`ZeroHashKey`](Refusal::ZeroHashKey) then. That is
+//! all that is checked of a key's bytes: any other key is accepted, however weak.
+//! What was sealed under such a key needs crate and library of a release before
+//! 0.8.0: read it with these, and write it with this release to a new volume under a
+//! new key, in another program. `docs/OPERATORS.md` in the repository has the steps.
 //!
 //! # Memory and threads
 //!

@@ -15,6 +15,7 @@ use crate::{ffi, Refusal, Side, Verdict};
 /// # Errors
 ///
 /// In this order: [`KeyLength`](Refusal::KeyLength);
+/// [`ZeroHashKey`](Refusal::ZeroHashKey);
 /// [`SectorSize`](Refusal::SectorSize) of the plaintext;
 /// [`OtherLength`](Refusal::OtherLength) of a sector or the tag.
 pub fn seal(
@@ -54,6 +55,7 @@ pub fn seal(
 /// # Errors
 ///
 /// In this order: [`KeyLength`](Refusal::KeyLength);
+/// [`ZeroHashKey`](Refusal::ZeroHashKey);
 /// [`SectorSize`](Refusal::SectorSize) of the local sector;
 /// [`OtherLength`](Refusal::OtherLength) of the remote sector, the tag or the
 /// output; [`Lost`](Refusal::Lost); [`Clashing`](Refusal::Clashing).
@@ -91,6 +93,7 @@ pub fn judge(
 /// # Errors
 ///
 /// In this order: [`KeyLength`](Refusal::KeyLength);
+/// [`ZeroHashKey`](Refusal::ZeroHashKey);
 /// [`SectorSize`](Refusal::SectorSize) of the sector;
 /// [`OtherLength`](Refusal::OtherLength) of the tag or the output;
 /// [`NoneFits`](Refusal::NoneFits).

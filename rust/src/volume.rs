@@ -279,6 +279,7 @@ impl<I: AsRef<[u8]>, M: AsRef<[u64]>> Volume<'_, I, M> {
     /// # Errors
     ///
     /// In this order: [`KeyLength`](Refusal::KeyLength);
+    /// [`ZeroHashKey`](Refusal::ZeroHashKey);
     /// [`SectorSize`](Refusal::SectorSize);
     /// [`VolumeShape`](Refusal::VolumeShape);
     /// [`MapLength`](Refusal::MapLength); [`ListLength`](Refusal::ListLength).
@@ -339,6 +340,7 @@ impl<I: AsRef<[u8]> + AsMut<[u8]>, M: AsMut<[u64]>> Volume<'_, I, M> {
     /// # Errors
     ///
     /// In this order: [`KeyLength`](Refusal::KeyLength);
+    /// [`ZeroHashKey`](Refusal::ZeroHashKey);
     /// [`SectorSize`](Refusal::SectorSize);
     /// [`VolumeShape`](Refusal::VolumeShape);
     /// [`MapLength`](Refusal::MapLength);

@@ -1,8 +1,8 @@
 /*
- * Keys whose hash key h, the first 16 bytes, is zero: each call with a key refuses them by 14, directly behind 1 and before all else that is
- * wrong, and changes nothing that it was lent, nor the map. Each call is made with every choice of faults and in each state of its sector,
- * with such a key and with a right one: so what would be refused otherwise is seen too. Any other key is accepted, also one with a single
- * bit of h set, or with an AES key of zeros.
+ * Keys whose hash key h, the first 16 bytes, is zero: each call with a key refuses them by 14, directly behind 1 and before all else that
+ * is wrong, and changes nothing that it was lent, nor the map. Each call is made with every choice of faults and in each state of its
+ * sector, with such a key and with a right one: so what would be refused otherwise is seen too. Any other key is accepted, also one with a
+ * single bit of h set, or with an AES key of zeros.
  */
 #include "checks.h"
 

@@ -1,6 +1,6 @@
 //! A sealed sector, and what a volume of a test is like.
 
-use mirror::{seal, TAG_BYTES};
+use mirror::{seal, KEY_BYTES, TAG_BYTES};
 
 /// The size of a test's sectors.
 pub const SIZE: usize = 48;
@@ -14,6 +14,25 @@ pub const VOLUME: u64 = 0xf0e1_d2c3_b4a5_9687;
 /// A key whose bytes all differ.
 pub fn key() -> Vec<u8> {
     (100..132).collect()
+}
+
+/// The same with a hash key, the first 16 bytes, of zeros.
+pub fn zero_hash_key() -> Vec<u8> {
+    let mut key = key();
+    key[..16].fill(0);
+    key
+}
+
+/// Keys that are accepted, though all their bytes but one of the hash key are zero:
+/// there the lowest or the highest bit is set.
+pub fn almost_zero_keys() -> impl Iterator<Item = [u8; KEY_BYTES]> {
+    (0..16).flat_map(|at| {
+        [1, 0x80].map(|byte| {
+            let mut key = [0; KEY_BYTES];
+            key[at] = byte;
+            key
+        })
+    })
 }
 
 /// Bytes that differ for different `first`.

@@ -1,7 +1,7 @@
 //! The map of suspects: what each call does to its sector's bit, the two calls on
 //! a map alone, and a look at one bit.
 
-use crate::common::{bytes, clashing, key, sealed, Triple, SIZE, VOLUME};
+use crate::common::{bytes, clashing, key, sealed, zero_hash_key, Triple, SIZE, VOLUME};
 use mirror::{count_suspects, map_words, start_map};
 use mirror::{Place, Refusal, Verdict, Volume, TAG_BYTES, VOLUME_SECTORS_MAX};
 
@@ -213,22 +213,23 @@ fn other_refusals_leave_the_map() {
     let mut volume = blanked(&key);
     put(&mut volume, 64, Before::Lost);
     let (local, tags, remote) = images(&volume);
-    // Bytes of the key, size, count, words of the map, number, and bytes of the
-    // plaintext or the output.
+    let (right, zero) = (&key[..], &zero_hash_key()[..]);
+    // Key, size, count, words of the map, number, and bytes of the plaintext or the
+    // output.
     let faults = [
-        (31, SIZE, COUNT, 3, 64, SIZE, Refusal::KeyLength),
-        (32, 15, COUNT, 3, 64, SIZE, Refusal::SectorSize),
-        (32, SIZE, COUNT + 1, 3, 64, SIZE, Refusal::VolumeShape),
-        (32, SIZE, COUNT, 2, 64, SIZE, Refusal::MapLength),
-        (32, SIZE, COUNT, 4, 64, SIZE, Refusal::MapLength),
-        (32, SIZE, COUNT, 3, COUNT, SIZE, Refusal::SectorNumber),
-        (32, SIZE, COUNT, 3, 64, SIZE - 1, Refusal::OtherLength),
+        (&key[1..], SIZE, COUNT, 3, 64, SIZE, Refusal::KeyLength),
+        (zero, SIZE, COUNT, 3, 64, SIZE, Refusal::ZeroHashKey),
+        (right, 15, COUNT, 3, 64, SIZE, Refusal::SectorSize),
+        (right, SIZE, COUNT + 1, 3, 64, SIZE, Refusal::VolumeShape),
+        (right, SIZE, COUNT, 2, 64, SIZE, Refusal::MapLength),
+        (right, SIZE, COUNT, 4, 64, SIZE, Refusal::MapLength),
+        (right, SIZE, COUNT, 3, COUNT, SIZE, Refusal::SectorNumber),
+        (right, SIZE, COUNT, 3, 64, SIZE - 1, Refusal::OtherLength),
     ];
-    for (key_bytes, size, count, words, number, length, due) in faults {
+    for (key, size, count, words, number, length, due) in faults {
         for word in [0, u64::MAX] {
             let map = vec![word; words];
             let (local, tags, remote) = (local.clone(), tags.clone(), remote.clone());
-            let key = &key[..key_bytes];
             let mut volume = Volume::new(key, VOLUME, size, count, local, tags, remote, map);
             for call in CALLS {
                 // These two take no plaintext and no output.

@@ -8,16 +8,16 @@ use std::collections::HashSet;
 use std::ptr::{null, null_mut};
 
 #[test]
-fn refusals_have_the_numbers_1_to_11_and_13() {
+fn refusals_have_the_numbers_1_to_11_and_13_and_14() {
     let numbers: Vec<u32> = Refusal::ALL
         .iter()
         .map(|refusal| refusal.number())
         .collect();
-    assert_eq!(numbers, (1..=11).chain([13]).collect::<Vec<u32>>());
+    assert_eq!(numbers, (1..=11).chain([13, 14]).collect::<Vec<u32>>());
     for &refusal in Refusal::ALL {
         assert_eq!(Refusal::from_number(refusal.number()), Some(refusal));
     }
-    for number in [0, 12, 14, 0x81, u32::MAX] {
+    for number in [0, 12, 15, 0x81, u32::MAX] {
         assert_eq!(Refusal::from_number(number), None);
     }
 }
@@ -58,7 +58,7 @@ fn each_refusal_says_what_is_wrong_and_what_to_do() {
         assert!(!wrong.is_empty() && !what_to_do.is_empty(), "{text}");
         assert!(!text.contains("  "), "{text}");
     }
-    assert_eq!(texts.iter().collect::<HashSet<_>>().len(), 12);
+    assert_eq!(texts.iter().collect::<HashSet<_>>().len(), 13);
     let error: Box<dyn std::error::Error> = Box::new(Refusal::Lost);
     assert!(error.to_string().starts_with("lost"));
 }

@@ -1,6 +1,7 @@
 //! The calls on one sector: each answer as the wrapper names it.
 
-use crate::common::{bytes, clashing, key, sealed, Triple, SIZE, VOLUME};
+use crate::common::{almost_zero_keys, bytes, clashing, key, sealed, zero_hash_key};
+use crate::common::{Triple, SIZE, VOLUME};
 use mirror::{combine, judge, open, rebuild, seal};
 use mirror::{Place, Refusal, Side, Verdict};
 use mirror::{SECTOR_BYTES_MAX, SECTOR_BYTES_MIN, TAG_BYTES};
@@ -124,14 +125,17 @@ fn combines() {
 fn seal_and_judge_refuse_in_order() {
     let plaintext = bytes(6);
     let whole = sealed(ADDRESS, &plaintext);
-    for (key_length, size, tag_length, due) in [
-        (31, 40, 15, Refusal::KeyLength),
-        (32, 40, 15, Refusal::SectorSize),
-        (32, 48, 15, Refusal::OtherLength),
+    let (right, zero) = (key(), zero_hash_key());
+    for (key, size, tag_length, due) in [
+        (&zero[1..], 40, 15, Refusal::KeyLength),
+        (&zero, 40, 15, Refusal::ZeroHashKey),
+        (&zero, 48, 15, Refusal::ZeroHashKey),
+        (&zero, 48, 16, Refusal::ZeroHashKey),
+        (&right, 40, 15, Refusal::SectorSize),
+        (&right, 48, 15, Refusal::OtherLength),
     ] {
         let mut triple = whole.clone();
         let Triple { local, tag, remote } = &mut triple;
-        let key = &key()[..key_length];
         let refused = seal(
             key,
             VOLUME,
@@ -156,18 +160,64 @@ fn seal_and_judge_refuse_in_order() {
 fn open_and_rebuild_refuse_in_order() {
     let whole = sealed(ADDRESS, &bytes(7));
     let (sector, tag) = (&whole.remote, &whole.tag);
-    for (key_length, size, tag_length, due) in [
-        (0, 0, 0, Refusal::KeyLength),
-        (32, 0, 0, Refusal::SectorSize),
-        (32, 48, 0, Refusal::OtherLength),
-        (32, 48, 16, Refusal::NoneFits),
+    let (right, zero) = (key(), zero_hash_key());
+    for (key, size, tag_length, due) in [
+        (&[][..], 0, 0, Refusal::KeyLength),
+        (&zero[..16], 0, 0, Refusal::KeyLength),
+        (&zero, 0, 0, Refusal::ZeroHashKey),
+        (&zero, 48, 0, Refusal::ZeroHashKey),
+        (&zero, 48, 16, Refusal::ZeroHashKey),
+        (&right, 0, 0, Refusal::SectorSize),
+        (&right, 48, 0, Refusal::OtherLength),
+        (&right, 48, 16, Refusal::NoneFits),
     ] {
         for call in [open, rebuild] {
-            let (key, sector, tag) = (&key()[..key_length], &sector[..size], &tag[..tag_length]);
+            let (sector, tag) = (&sector[..size], &tag[..tag_length]);
             let mut output = vec![0xee; SIZE];
             let refused = call(key, VOLUME, ADDRESS, Side::Local, sector, tag, &mut output);
             assert_eq!((refused, output), (Err(due), vec![0xee; SIZE]));
         }
+    }
+}
+
+#[test]
+fn any_other_hash_key_is_accepted() {
+    let plaintext = bytes(9);
+    for key in almost_zero_keys() {
+        let (mut local, mut remote) = ([0; SIZE], [0; SIZE]);
+        let (mut tag, mut output) = ([0; TAG_BYTES], [0; SIZE]);
+        let done = seal(
+            &key,
+            VOLUME,
+            ADDRESS,
+            &plaintext,
+            &mut local,
+            &mut tag,
+            &mut remote,
+        );
+        assert_eq!(done, Ok(()));
+        let judged = judge(&key, VOLUME, ADDRESS, &local, &tag, &remote, &mut output);
+        assert_eq!((judged, &output[..]), (Ok(Verdict::Whole), &plaintext[..]));
+        let done = rebuild(
+            &key,
+            VOLUME,
+            ADDRESS,
+            Side::Local,
+            &local,
+            &tag,
+            &mut output,
+        );
+        assert_eq!((done, output), (Ok(()), remote));
+        let done = open(
+            &key,
+            VOLUME,
+            ADDRESS,
+            Side::Remote,
+            &remote,
+            &tag,
+            &mut output,
+        );
+        assert_eq!((done, &output[..]), (Ok(()), &plaintext[..]));
     }
 }
 

@@ -1,6 +1,7 @@
 //! The calls on a volume: each answer as the wrapper names it.
 
-use crate::common::{bytes, clashing, key, sealed, Triple, COUNT, SIZE, VOLUME};
+use crate::common::{almost_zero_keys, bytes, clashing, key, sealed, zero_hash_key};
+use crate::common::{Triple, COUNT, SIZE, VOLUME};
 use mirror::{ByKind, Place, Refusal, Side, Survey, Verdict, Volume};
 use mirror::{SECTOR_BYTES_MAX, SECTOR_BYTES_MIN, TAG_BYTES, VOLUME_SECTORS_MAX};
 
@@ -688,8 +689,8 @@ fn refusals(volume: &mut Lent, number: usize) -> [Option<Refusal>; 8] {
     ]
 }
 
-/// Every call is refused for its shape, its size and its key, in this order,
-/// whatever else is wrong.
+/// Every call is refused for its shape, its size, its hash key and the length of
+/// its key, the last of these first, whatever else is wrong.
 fn insist_on_first_refusals(images: &mut Images) {
     let key = key();
     let due = [Some(Refusal::VolumeShape); 8];
@@ -700,9 +701,79 @@ fn insist_on_first_refusals(images: &mut Images) {
     let volume = &mut images.of_shape(&key, 15, VOLUME_SECTORS_MAX + 1);
     let due = [Some(Refusal::SectorSize); 8];
     assert_eq!(refusals(volume, usize::MAX), due);
-    let volume = &mut images.of_shape(&key[1..], 15, VOLUME_SECTORS_MAX + 1);
-    let due = [Some(Refusal::KeyLength); 8];
-    assert_eq!(refusals(volume, usize::MAX), due);
+    let zero = zero_hash_key();
+    let due = [Some(Refusal::ZeroHashKey); 8];
+    for (size, count) in [(SIZE, COUNT), (SIZE, 0), (15, VOLUME_SECTORS_MAX + 1)] {
+        for number in [0, usize::MAX] {
+            let volume = &mut images.of_shape(&zero, size, count);
+            assert_eq!(refusals(volume, number), due);
+        }
+    }
+    for key in [&key[1..], &zero[1..], &zero[..16], &[]] {
+        let volume = &mut images.of_shape(key, 15, VOLUME_SECTORS_MAX + 1);
+        let due = [Some(Refusal::KeyLength); 8];
+        assert_eq!(refusals(volume, usize::MAX), due);
+    }
+}
+
+/// The answers of the eight calls with all other arguments right, and an output and
+/// a list that none of them may write.
+fn answers(volume: &mut Lent, number: usize) -> [Option<Refusal>; 8] {
+    let plaintext = bytes(1);
+    let (mut output, mut list) = ([0xee; SIZE], [9; COUNT]);
+    let answers = [
+        volume.blank(number).err(),
+        volume.mend(number).err(),
+        volume.first_stage(number, &plaintext).err(),
+        volume.second_stage(number, &plaintext).err(),
+        volume.third_stage(number, &plaintext).err(),
+        volume.read(number, &mut output).err(),
+        volume.write(number, &plaintext).err(),
+        volume.survey(&mut list).err(),
+    ];
+    assert_eq!((output, list), ([0xee; SIZE], [9; COUNT]));
+    answers
+}
+
+/// Whatever the sector holds, and however the rest of the key is. The calls on the
+/// map alone take no key.
+#[test]
+fn a_zero_hash_key_is_refused_and_changes_nothing() {
+    for zero in [zero_hash_key(), vec![0; 32]] {
+        for (mut images, map) in [(Images::blanked(), 0), (damaged(), u64::MAX)] {
+            images.map = vec![map];
+            let before = images.clone();
+            for number in 0..COUNT {
+                let due = [Some(Refusal::ZeroHashKey); 8];
+                assert_eq!(answers(&mut images.volume(&zero), number), due);
+            }
+            assert_eq!(images, before);
+            assert_eq!(images.volume(&zero).start_map(), Ok(()));
+            let suspects = images.volume(&zero).count_suspects();
+            assert_eq!(suspects, Ok(COUNT as u64));
+        }
+    }
+}
+
+#[test]
+fn any_other_hash_key_is_accepted() {
+    let (old, new) = (bytes(1), bytes(2));
+    for key in almost_zero_keys() {
+        let mut images = Images::blanked();
+        let mut volume = images.volume(&key);
+        let mut output = [0; SIZE];
+        assert_eq!(volume.blank(1), Ok(()));
+        assert_eq!(volume.first_stage(1, &old), Ok(()));
+        assert_eq!(volume.second_stage(1, &old), Ok(()));
+        assert_eq!(volume.third_stage(1, &old), Ok(()));
+        assert_eq!(volume.mend(1), Ok(Verdict::Whole));
+        assert_eq!(volume.write(1, &new), Ok(Verdict::Whole));
+        assert_eq!(volume.read(1, &mut output), Ok(Verdict::Whole));
+        assert_eq!(output[..], new);
+        let mut list = [9; COUNT];
+        let (survey, listed) = volume.survey(&mut list).expect("accepted");
+        assert_eq!((survey.whole, listed), (1, &[0, 2][..]));
+    }
 }
 
 #[test]
