@@ -19,6 +19,7 @@ enum {
     VOLUME_SHAPE = 8,
     SECTOR_NUMBER = 9,
     LIST_LENGTH = 11,
+    ZERO_HASH_KEY = 14,
 };
 
 enum { WHOLE = 0, DOUBTFUL_LOCAL = 0x81, DOUBTFUL_TAG = 0x82, DOUBTFUL_REMOTE = 0x83 };
@@ -138,10 +139,18 @@ static uint32_t judge(const prepared *k, block w, const uint8_t *local, const ui
 
 static bool is_size(size_t s) { return s >= BLOCK && s <= LARGEST && s % BLOCK == 0; }
 
+// The first refusal of a key and a size, or 0.
+static uint32_t check_key_and_size(slice key, size_t s) {
+    static const uint8_t zero[BLOCK];
+    if (key.length != KEY) return KEY_LENGTH;
+    if (same(key.at, zero, BLOCK)) return ZERO_HASH_KEY;
+    return is_size(s) ? 0 : SECTOR_SIZE;
+}
+
 uint32_t plain_seal(slice key, uint64_t volume, uint64_t address, slice plain, slice_mut local, slice_mut remote, slice_mut tag) {
     size_t s = plain.length;
-    if (key.length != KEY) return KEY_LENGTH;
-    if (!is_size(s)) return SECTOR_SIZE;
+    uint32_t refusal = check_key_and_size(key, s);
+    if (refusal) return refusal;
     if (local.length != s || remote.length != s || tag.length != BLOCK) return OTHER_LENGTH;
     prepared k = prepare(key.at, s / BLOCK);
     seal(&k, tweak(volume, address), plain.at, s / BLOCK, local.at, remote.at, tag.at);
@@ -150,8 +159,8 @@ uint32_t plain_seal(slice key, uint64_t volume, uint64_t address, slice plain, s
 
 uint32_t plain_judge(slice key, uint64_t volume, uint64_t address, slice local, slice tag, slice remote, slice_mut out) {
     size_t s = local.length;
-    if (key.length != KEY) return KEY_LENGTH;
-    if (!is_size(s)) return SECTOR_SIZE;
+    uint32_t refusal = check_key_and_size(key, s);
+    if (refusal) return refusal;
     if (remote.length != s || out.length != s || tag.length != BLOCK) return OTHER_LENGTH;
     prepared k = prepare(key.at, s / BLOCK);
     return judge(&k, tweak(volume, address), local.at, tag.at, remote.at, s / BLOCK, out.at);
@@ -161,8 +170,8 @@ uint32_t plain_judge(slice key, uint64_t volume, uint64_t address, slice local, 
 
 // The first refusal of a call that takes s and n, or 0.
 static uint32_t check(slice key, size_t s, size_t n, size_t local, size_t tags, size_t remote) {
-    if (key.length != KEY) return KEY_LENGTH;
-    if (!is_size(s)) return SECTOR_SIZE;
+    uint32_t refusal = check_key_and_size(key, s);
+    if (refusal) return refusal;
     if (n < 1 || n > SECTORS || local != n * s || tags != n * BLOCK || remote != n * s) return VOLUME_SHAPE;
     return 0;
 }

@@ -1,5 +1,6 @@
-// Calls of document 01 in portable C, for the benchmark to time the library against. They check and answer as document 01 says: 0 for done
-// or whole, 0x81 to 0x83 for doubtful at a place, else the refusal's number. `volume` is the volume's number, which comes after the key.
+// Calls of document 01 in portable C, for the benchmark to time the library against. They check and answer as document 01 says, with the
+// refusal 14 behind 1: 0 for done or whole, 0x81 to 0x83 for doubtful at a place, else the refusal's number. `volume` is the volume's
+// number, which comes after the key.
 #ifndef PLAIN_H
 #define PLAIN_H
 

@@ -65,6 +65,13 @@ impl Case {
         found.unwrap_or_else(|| panic!("no case {name}"))
     }
 
+    /// The sizes of the tables at which it is timed, each with its place there.
+    pub fn sizes(&self) -> impl Iterator<Item = (usize, usize)> {
+        let state = self.state;
+        let sizes = SIZES.into_iter().enumerate();
+        sizes.filter(move |&(_, size)| state.is_possible(size))
+    }
+
     /// The volume before the first call.
     pub fn volume(&self, size: usize, sectors: usize) -> Volume {
         let mut volume = Volume::new(size, sectors, self.state);

@@ -21,7 +21,7 @@ const MOST_COUNTED: usize = 256;
 /// The sizes of the sectors in these surveys.
 pub const SURVEY_SIZES: [usize; 2] = [16, 512];
 
-/// The least and the greatest over the runs.
+/// The least and the greatest over the runs; NaN where nothing is timed.
 #[derive(Clone, Copy)]
 pub struct Range {
     pub least: f64,
@@ -30,10 +30,11 @@ pub struct Range {
 
 impl Range {
     const NONE: Range = Range {
-        least: f64::INFINITY,
-        greatest: 0.0,
+        least: f64::NAN,
+        greatest: f64::NAN,
     };
 
+    /// Of a number and NaN, `min` and `max` give the number.
     fn add(&mut self, value: f64) {
         self.least = self.least.min(value);
         self.greatest = self.greatest.max(value);
@@ -50,7 +51,8 @@ pub type BySize = [[f64; GROWTH_CALLS.len()]; GROWTH_SIZES.len()];
 pub type ByCount = [[f64; SURVEY_SIZES.len()]; GROWTH_COUNTS.len()];
 
 /// Times are nanoseconds of a call, the least of all runs. Ratios are the
-/// library's time to that of the others, each within one run.
+/// library's time to that of the others, each within one run. What is not timed
+/// is NaN.
 pub struct Times {
     pub calls: ByCase,
     pub ratios: [[[Range; ALL.len() - 1]; SIZES.len()]; CASES.len()],
@@ -69,7 +71,7 @@ pub struct Counts {
 /// timed.
 pub fn insist_on_agreement() {
     for case in &CASES {
-        for size in SIZES {
+        for (_, size) in case.sizes() {
             case.insist_on_agreement(&case.volume(size, SECTORS));
         }
     }
@@ -90,7 +92,7 @@ pub fn insist_on_agreement() {
 impl Times {
     pub fn new() -> Times {
         Times {
-            calls: [[[f64::INFINITY; ALL.len()]; SIZES.len()]; CASES.len()],
+            calls: [[[f64::NAN; ALL.len()]; SIZES.len()]; CASES.len()],
             ratios: [[[Range::NONE; ALL.len() - 1]; SIZES.len()]; CASES.len()],
             by_size: [[f64::INFINITY; GROWTH_CALLS.len()]; GROWTH_SIZES.len()],
             by_count: [[f64::INFINITY; SURVEY_SIZES.len()]; GROWTH_COUNTS.len()],
@@ -100,7 +102,7 @@ impl Times {
     /// One run of everything, with so much time for each case and size.
     pub fn add_run(&mut self, budget: Duration) {
         for (c, case) in CASES.iter().enumerate() {
-            for (s, size) in SIZES.into_iter().enumerate() {
+            for (s, size) in case.sizes() {
                 let found = times(case, &case.volume(size, SECTORS), &ALL, budget);
                 for (best, time) in self.calls[c][s].iter_mut().zip(&found) {
                     *best = best.min(*time);
@@ -162,6 +164,9 @@ impl Counts {
         };
         for (case, rows) in CASES.iter().zip(&mut self.calls) {
             for (size, row) in SIZES.into_iter().zip(rows) {
+                if !case.state.is_possible(size) {
+                    continue;
+                }
                 for (implementation, place) in ALL.iter().zip(row) {
                     add(case, size, implementation.name, SECTORS, place);
                 }

@@ -168,6 +168,9 @@ fn bars(svg: &mut Svg, times: &Times, baseline: usize, left: f64, most: f64) {
         for (i, shade) in SHADES.into_iter().enumerate() {
             let range = ranges[i][baseline];
             let ratio = (range.least + range.greatest) / 2.0;
+            if ratio.is_nan() {
+                continue; // not timed
+            }
             let y = BARS_TOP + GROUP * row as f64 + BAR * i as f64;
             svg.bar(left, y, at(ratio) - left, BAR - 1.0, shade);
             labels.push((at(ratio) + 4.0, y + BAR - 2.0, format!("{ratio:.2}")));

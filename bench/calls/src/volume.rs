@@ -54,13 +54,8 @@ pub struct Volume {
 impl Volume {
     pub fn new(size: usize, count: usize, state: State) -> Volume {
         let mut rng = Rng::new(1);
-        let mut key = rng.bytes(32);
-        if matches!(state, State::Clashing) && size == 16 {
-            // Plaintexts of one block share a tag only where h is zero.
-            key[..16].fill(0);
-        }
         let mut volume = Volume {
-            key,
+            key: rng.bytes(32),
             number: NUMBER,
             size,
             count,
@@ -95,9 +90,10 @@ impl Volume {
                 rng.fill(&mut sector.remote);
             }
             State::Clashing => {
-                let (one, other) = pair(&self.key, plain);
-                sector = sealed(&one);
-                sector.remote = sealed(&other).remote;
+                // They begin with h, so that their second blocks have no say in the tag.
+                let (one, other) = blind_pair(to_block(&self.key[..16]), &to_blocks(plain), 1);
+                sector = sealed(&to_bytes(&one));
+                sector.remote = sealed(&to_bytes(&other)).remote;
             }
         }
         sector
@@ -116,6 +112,12 @@ impl Volume {
 }
 
 impl State {
+    /// Whether sectors of this size can be in it. A clash takes two blocks: no two
+    /// plaintexts of one block have one tag.
+    pub fn is_possible(self, size: usize) -> bool {
+        !matches!(self, State::Clashing) || size >= 32
+    }
+
     fn of_sector(self, number: usize) -> State {
         match self {
             State::Mixed if number % 4 == 3 => match number / 4 % 4 {
@@ -128,14 +130,4 @@ impl State {
             state => state,
         }
     }
-}
-
-/// Two plaintexts of one tag, made from one.
-fn pair(key: &[u8], plain: &[u8]) -> (Vec<u8>, Vec<u8>) {
-    if plain.len() == 16 {
-        let other = plain.iter().map(|byte| byte ^ 1).collect();
-        return (plain.to_vec(), other);
-    }
-    let (one, other) = blind_pair(to_block(&key[..16]), &to_blocks(plain), 1);
-    (to_bytes(&one), to_bytes(&other))
 }
