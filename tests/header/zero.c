@@ -315,13 +315,13 @@ static void accepts_key(void)
     }
 }
 
-/* A single byte of h is not zero, its lowest or its highest bit; K is zeros, and then it is not. */
+/* Each single bit of h; K is zeros, and then it is not. */
 static void accepts(void)
 {
     size_t i;
     int bit, k;
     for (i = 0; i < H; i++) {
-        for (bit = 0; bit < 8; bit += 7) {
+        for (bit = 0; bit < 8; bit++) {
             for (k = 0; k < 2; k++) {
                 memset(at[KEY], 0, H);
                 memset(at[KEY] + H, k ? 0xc3 : 0, MIRROR_KEY_BYTES - H);
