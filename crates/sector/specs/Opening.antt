@@ -17,6 +17,6 @@ wantedOf Opposite S T d P = on (S .sealed T P) (placeOf (otherSide d))
 abbrev pub openedAs : Wanted → Scheme → ℕ → Side → List ℕ → List ℕ → List ℕ → ℕ × List ℕ
 openedAs wanted S T d x g out = openOutcome (wantedOf wanted S T d) (opened S T d g x) out
 
--- with the refusals 1 to 4
+-- with the refusals 1, 14, 2, 3 and 4
 abbrev pub openAs : Wanted → Key → ℕ → ℕ → ℕ → List ℕ → List ℕ → List ℕ → ℕ × List ℕ
 openAs wanted k volume address d x g out = openWith (wantedOf wanted (scheme k) (tweak volume address) (sideOf d)) k volume address d x g out

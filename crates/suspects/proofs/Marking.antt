@@ -78,7 +78,7 @@ within Sets i w h = h
 within Keeps i w h = tt
 
 module _ (v : Triple) (vol : Volume) where
-  -- 1, 2 and 8
+  -- 1, 14, 2 and 8
   abbrev pub volumeOnly : List Rule
   volumeOnly = volumeRules (vol .key) (vol .size) (isShape (vol .size) (vol .count) v)
 

@@ -22,7 +22,7 @@ turned Clears b = false
 turned Sets b = true
 turned Keeps b = b
 
--- all refusals of a call on one sector, in order: 1, 2, 8, 13, 9, then 3, and at last 6 and 7, or 10
+-- all refusals of a call on one sector, in order: 1, 14, 2, 8, 13, 9, then 3, and at last 6 and 7, or 10
 abbrev pub callOrder : Triple → Args → Call → List ℕ → List Rule
 callOrder v a c m = firstRules v a m ++ (lengths a c ++ late (sealing mirror a) (a .number) (sector v a) c)
 

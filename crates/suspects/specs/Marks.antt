@@ -60,7 +60,7 @@ marked Keeps i m = m
 
 -- ---- the calls
 
--- 1, 2, 8, 13 and 9, which come before all else: so a bit that is marked is known to be within the map
+-- 1, 14, 2, 8, 13 and 9, which come before all else: so a bit that is marked is known to be within the map
 abbrev pub firstRules : Triple → Args → List ℕ → List Rule
 firstRules v a m =
     sectorAndMapRules (a .volume .key) (a .volume .size) (a .volume .count) (isShape (a .volume .size) (a .volume .count) v) (length m) (a .number)

@@ -26,7 +26,7 @@ callsAnswer a [] d = []
 callsAnswer a (c ∷ cs) d = let r = mapOutcome mirror (d .0) a c (d .1) in r .0 ∷ callsAnswer a cs (r .1)
 
 module _ (v : Triple) (a : Args) (P m : List ℕ) where
-  -- the refusals before 6 and 7, in order: 1, 2, 8, 13, 9, and 3 for the plaintext's length
+  -- the refusals before 6 and 7, in order: 1, 14, 2, 8, 13, 9, and 3 for the plaintext's length
   abbrev pub writeRules : List Rule
   writeRules = firstRules v a m ++ lengthRules (length P) (a .volume .size)
 
