@@ -1,5 +1,5 @@
--- Refusals on arguments (document 01, 13 of change request S-4 and 14 of S-7): each rule once, and the rules of each call in its order. Assumes
--- nothing: these are definitions.
+-- Refusals on arguments (document 01, 13 of change request S-4 and 14 of S-7): each rule once, and the rules of each call in its order.
+-- Assumes nothing: these are definitions.
 use mathlib.Core.Bool.{Bool, true, not, _&&_, _||_, cond}
 use mathlib.Core.List.{List, [], _∷_, _++_}
 use mathlib.Core.Option.{Option, none, some}

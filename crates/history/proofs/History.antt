@@ -30,10 +30,17 @@ start-agrees seals vol v I = record { images = I; agree = λ i lt. tt }
 
 -- ---- images of any lengths: no call is accepted until damage has made the lengths right, and till then all stays gone
 
-module _ (seals : Schemes) (sound : AllSound seals) (vol : Volume) where
-  abbrev AllGone : State → Type 0
-  AllGone h = (i : ℕ) → h i ≡ gone
+abbrev pub AllGone : State → Type 0
+AllGone h = (i : ℕ) → h i ≡ gone
 
+pub gone-hurt : (h : State) (p : Place) (i : ℕ) → AllGone h → AllGone (put i (afterDamage p (h i)) h)
+gone-hurt h p i z j = go (ℕ-discrete j i)
+  where
+    go : Dec (j ≡ i) → put i (afterDamage p (h i)) h j ≡ gone
+    go (yes e) = ap (put i (afterDamage p (h i)) h) e ∙ put-same i (afterDamage p (h i)) h ∙ ap (afterDamage p) (z i)
+    go (no n) = put-other i (afterDamage p (h i)) h j n ∙ z j
+
+module _ (seals : Schemes) (sound : AllSound seals) (vol : Volume) where
   record Either (v : Triple) (h : State) : Type 0 where
     bytes : AnyBytes v
     cases : Agrees seals vol v h ⊎ AllGone h
@@ -43,13 +50,6 @@ module _ (seals : Schemes) (sound : AllSound seals) (vol : Volume) where
 
   gone-agrees : (v : Triple) (h : State) → Images (vol .size) (vol .count) v → AllGone h → Agrees seals vol v h
   gone-agrees v h I z = record { images = I; agree = λ i lt. subst (λ (x : Held). Agree (vol .size) (own seals vol) i (at vol v i) x) (sym (z i)) tt }
-
-  gone-hurt : (h : State) (p : Place) (i : ℕ) → AllGone h → AllGone (put i (afterDamage p (h i)) h)
-  gone-hurt h p i z j = go (ℕ-discrete j i)
-    where
-      go : Dec (j ≡ i) → put i (afterDamage p (h i)) h j ≡ gone
-      go (yes e) = ap (put i (afterDamage p (h i)) h) e ∙ put-same i (afterDamage p (h i)) h ∙ ap (afterDamage p) (z i)
-      go (no n) = put-other i (afterDamage p (h i)) h j n ∙ z j
 
   either-call : (v : Triple) (h : State) → AnyBytes v → AllGone h → (a : Args) (c : Call) (f : Fate) → Allowed seals vol v (call a c f) → (r : Option ℕ) → refusal seals v a c ≡ r
       → Either (leavesCall seals v a c f) (machine h (seen seals vol v (call a c f)))

@@ -25,7 +25,8 @@ pub record NumberFacts : Type 0 where
   pub promises-seal : (k : Key) (volume s n i : ℕ) (P : List ℕ) → own mirror (volumeOf k volume s n) .sealed i P ≡ sealed k volume i P
   -- the sealing of a volume with number 0 is the one of before,
   pub seals-as-before : (k : Key) → mirror k 0 ≡ mirrorBefore k
-  -- so a call on it answers what it did, and leaves the images and the output as it did, finished or cut
+  -- so a call on it answers what it did, and leaves the images and the output as it did, finished or cut, but for refusal 14 (change
+  -- request S-7), which the rules on both sides have
   pub calls-as-before : (v : Triple) (a : Args) (c : Call) → a .volume .number ≡ 0 → outcome mirror v a c ≡ outcome unnumbered v a c
   pub reads-as-before : (v : Triple) (a : Args) (out : List ℕ) → a .volume .number ≡ 0 → readOutcome mirror v a out ≡ readOutcome unnumbered v a out
   pub leaves-as-before : (v : Triple) (a : Args) (c : Call) (f : Fate) → a .volume .number ≡ 0 → leavesCall mirror v a c f ≡ leavesCall unnumbered v a c f

@@ -1,4 +1,5 @@
 pub mod Numbers
 pub mod SurveyNumbers
 pub mod Sectors
+pub mod OtherKeys
 pub mod ZeroHash

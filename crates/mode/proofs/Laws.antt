@@ -16,7 +16,7 @@ use Rattle.block.proofs.Numbers.{number-append, from-to, bytes-toBytes, length-
 use Rattle.hash.specs.Brw.{brw}
 use Rattle.fips197.specs.Aes.{expand, cipherNumber}
 use Rattle.fips197.proofs.Bounds.{cipher-lt}
-use Rattle.mode.specs.Sealing.{keyFrom, cipherKey, roundKeys, hashKey, tweak, timesX, blockwise, tagBlock, pad, localBlock, remoteBlock, openLocalBlock, openRemoteBlock, sides, sealedBy}
+use Rattle.mode.specs.Sealing.{Key, keyFrom, cipherKey, roundKeys, hashKey, tweak, timesX, blockwise, tagBlock, pad, localBlock, remoteBlock, openLocalBlock, openRemoteBlock, sides, sealedBy, sealed}
 use Rattle.mode.specs.Scheme.{Place, local, tag, remote, on, wide, Lawful, Sound, dcm, scheme}
 use Rattle.mode.proofs.Sizes.{size-whole}
 use Rattle.mode.proofs.Blockwise.{blocksOf-below, plain-blockwise, blocks-back, undone, summed}
@@ -197,8 +197,15 @@ tweak-is volume address hv ha =
     ∙ ap₂ (λ (v a : ℕ). v * 2 ^ 64 + a) (from-to 8 volume hv) (from-to 8 address ha))
 
 -- a hash key of zero leaves the tag without plaintext and tweak
-pub zero-tag : (E : ℕ → ℕ) (h T : ℕ) (P : List ℕ) → h ≡ 0 → tagBlock E h T P ≡ E (bitXor 0 (E 0))
+zero-tag : (E : ℕ → ℕ) (T : ℕ) (P : List ℕ) → tagBlock E 0 T P ≡ E (bitXor 0 (E 0))
 unfolding tagBlock
-zero-tag E h T P e =
-    let b : ℕ = brw h (blocksOf P ++ (T ∷ [])) in
-    ap (λ (x : ℕ). E (bitXor x (E 0))) (ap (λ (g : ℕ). mul g b) e ∙ mul-zero-l b)
+zero-tag E T P = ap (λ (x : ℕ). E (bitXor x (E 0))) (mul-zero-l (brw 0 (blocksOf P ++ (T ∷ []))))
+
+-- so all have one tag
+pub one-tag : (k : Key) → hashKey k ≡ 0 → (volume address volume′ address′ : ℕ) (P Q : List ℕ) → sealed k volume address P .tag ≡ sealed k volume′ address′ Q .tag
+unfolding sealed sealedBy sides
+one-tag k e volume address volume′ address′ P Q =
+    let E : ℕ → ℕ = cipherNumber (roundKeys k) in
+    ap (λ (h : ℕ). toBytes 16 (tagBlock E h (tweak volume address) P)) e
+    ∙ ap (toBytes 16) (zero-tag E (tweak volume address) P ∙ sym (zero-tag E (tweak volume′ address′) Q))
+    ∙ ap (λ (h : ℕ). toBytes 16 (tagBlock E h (tweak volume′ address′) Q)) (sym e)

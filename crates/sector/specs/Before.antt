@@ -1,5 +1,6 @@
 -- What the volume's number 0 leaves as it was before there were numbers (change request S-2): each call with a key is document 01's, whose
--- tweak is the address alone. One statement, proved as `as-before`.
+-- tweak is the address alone, but for refusal 14 (change request S-7), which the rules on both sides have. One statement, proved as
+-- `as-before`.
 use mathlib.Core.Path.{_≡_}
 use mathlib.Core.List.{List}
 use Prim.Native.Nat.{ℕ}

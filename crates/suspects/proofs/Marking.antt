@@ -130,7 +130,7 @@ module _ (P : ℕ → Type 0) where
       go true h z = let n : r .number ≡ k = cc in subst P n (q .0)
       go false h z = h z
 
-  every-both : (xs ys : List Rule) → Every P xs → Every P ys → Every P (xs ++ ys)
+  pub every-both : (xs ys : List Rule) → Every P xs → Every P ys → Every P (xs ++ ys)
   every-both [] ys p q = q
   every-both (x ∷ xs) ys p q = (p .0, every-both xs ys (p .1) q)
 

@@ -7,3 +7,4 @@ pub mod Machine
 pub mod History
 pub mod Lists
 pub mod Witness
+pub mod NothingKept

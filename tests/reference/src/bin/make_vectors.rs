@@ -916,7 +916,7 @@ impl Maker {
         }
     }
 
-    /// A number has no say in refusals 1 to 4 and their order.
+    /// A number has no say in refusals 1, 14, 2, 3 and 4 and their order.
     fn numbered_refusals(&mut self) {
         let position = self.position();
         let sealed = self.sealed_at(position, 32);
