@@ -110,7 +110,7 @@ fn first_refusal(one: Done, other: Done) -> Done
     }
 }
 
-// Refusals 1 and 14. One test for both words of the hash key h, so that its time says no more of h than the answer does.
+// Refusals 1 and 14. One test for both words of the hash key h, so that by its source its time depends on h only by the answer.
 fn check_key(key: &[u8]) -> Done
     ensures { λ r. ⌜ firstOf (keyRules (keyFrom (now (key .entry)))) ≡ doneOption r ⌝ }
 {

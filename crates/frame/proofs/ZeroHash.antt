@@ -33,12 +33,12 @@ module _ (f : List ℕ) (one : kind f ≡ 1) (passes : firstOf (kindRules f ++ h
       let l = beside-fits f (some-byte f one) (none-left (halvesRules (together f)) (kindRules f) passes) in
       eq-eqb _ 32 (length-take-le 32 (drop 1 f) (simp length-drop (omega (arith, beside-one f one))))
 
-  no-hash : isZeroHash k ≡ true
-  no-hash = keys-refused .zero-bytes k keyed .1 (take-take 16 32 (drop 1 f) (omega arith) ∙ zeros)
+  zero-hash-key : isZeroHash k ≡ true
+  zero-hash-key = keys-refused .zero-bytes k keyed .1 (take-take 16 32 (drop 1 f) (omega arith) ∙ zeros)
 
   judged-14 : (out : List ℕ) → judged f out ≡ (14, out)
   unfolding judged
-  judged-14 out = judge-key-refused k 14 (λ rest. keys-refused .zero-hash k rest keyed no-hash) 0 _ _ out
+  judged-14 out = judge-key-refused k 14 (λ rest. keys-refused .zero-hash k rest keyed zero-hash-key) 0 _ _ out
 
   pub zero-hash-frame : frameAnswer f ≡ refused 14
   unfolding frameAnswer answered withPlaintext

@@ -1,4 +1,4 @@
--- What passing refusals 1, 2 and 8 shows of the images' lengths, and the size of scratch slices. Assumes nothing.
+-- What passing refusals 1, 14, 2 and 8 shows of the images' lengths, and the size of scratch slices. Assumes nothing.
 use mathlib.Core.Path.{_≡_, sym, subst}
 use mathlib.Core.List.{List}
 use Prim.Native.Nat.{ℕ, _<_, _≤_}

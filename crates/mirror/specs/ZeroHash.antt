@@ -46,6 +46,6 @@ pub record ZeroHash : Type 0 where
   -- why: every plaintext under such a key has one tag, in every volume and at every address
   pub one-tag : (k : Key) → isZeroHash k ≡ true → (volume address volume′ address′ : ℕ) (P Q : List ℕ)
       → sealed k volume address P .tag ≡ sealed k volume′ address′ Q .tag
-  -- so in the history of a volume under such a key no sector is ever kept
+  -- and in the history of a volume under such a key, where every call is refused, no sector is ever kept
   pub nothing-kept : (vol : Volume) → isKey (vol .key) ≡ true → isZeroHash (vol .key) ≡ true
       → (v : Triple) (es : List LaptopEvent) → AllLaptopAllowed vol v es → (i : ℕ) → holdLaptop vol v start es i ≡ gone

@@ -196,7 +196,7 @@ tweak-is volume address hv ha =
     ∙ ap (λ (k : ℕ). number 0 (toBytes 8 volume) * 256 ^ k + number 0 (toBytes 8 address)) (length-toBytes 8 address)
     ∙ ap₂ (λ (v a : ℕ). v * 2 ^ 64 + a) (from-to 8 volume hv) (from-to 8 address ha))
 
--- a hash key of zero leaves the tag without plaintext and tweak
+-- under a hash key of zero the tag depends neither on the plaintext nor on the tweak
 zero-tag : (E : ℕ → ℕ) (T : ℕ) (P : List ℕ) → tagBlock E 0 T P ≡ E (bitXor 0 (E 0))
 unfolding tagBlock
 zero-tag E T P = ap (λ (x : ℕ). E (bitXor x (E 0))) (mul-zero-l (brw 0 (blocksOf P ++ (T ∷ []))))
