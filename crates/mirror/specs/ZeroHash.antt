@@ -26,7 +26,7 @@ pub record RefusesKey (k : Key) (r : ℕ) : Type 0 where
   pub writes : (v : Triple) (volume s n i : ℕ) (P m : List ℕ) → writeOutcome mirror v (args k volume s n i) P m ≡ (r, (v, m))
   pub surveys : (v : Triple) (volume s n : ℕ) (m list counts : List ℕ) → surveyResult (mapSurveyOutcome v (volumeOf k volume s n) m list) counts ≡ (r, (counts, list))
 
--- no call answers k with the number r, whatever else it is given
+-- no call that takes the key k answers r, whatever else it is given
 pub record NeverAnswers (k : Key) (r : ℕ) : Type 0 where
   pub seals : (volume address : ℕ) (P : List ℕ) (out : Triple) → sealCall k volume address P out .0 ≡ r → ⊥
   pub judges : (volume address : ℕ) (t : Triple) (out : List ℕ) → judgeCall k volume address t out .0 ≡ r → ⊥
