@@ -1,0 +1,295 @@
+/* SPDX-License-Identifier: Apache-2.0 */
+#define _GNU_SOURCE
+#define NBDKIT_API_VERSION 2
+#include "disk.h"
+
+#include <errno.h>
+#include <fcntl.h>
+#include <inttypes.h>
+#include <nbdkit-plugin.h>
+#include <pthread.h>
+#include <stdarg.h>
+#include <stdatomic.h>
+#include <stdio.h>
+#include <string.h>
+#include <sys/file.h>
+#include <sys/stat.h>
+#include <sys/sysmacros.h>
+#include <syslog.h>
+#include <unistd.h>
+
+/* The file of each place. */
+static struct image {
+    const char *parameter, *path;
+    int file;
+    uint8_t superblock[SUPERBLOCK_BYTES];
+    struct superblock fields;
+    /* Flushing: how often it was asked for, and up to which asking it is done. */
+    pthread_mutex_t mutex;
+    pthread_cond_t turn;
+    uint64_t asked, landed;
+    bool flushing;
+} images[PLACES] = {
+    {.parameter = "local", .file = -1, .mutex = PTHREAD_MUTEX_INITIALIZER, .turn = PTHREAD_COND_INITIALIZER},
+    {.parameter = "tags", .file = -1, .mutex = PTHREAD_MUTEX_INITIALIZER, .turn = PTHREAD_COND_INITIALIZER},
+    {.parameter = "remote", .file = -1, .mutex = PTHREAD_MUTEX_INITIALIZER, .turn = PTHREAD_COND_INITIALIZER},
+};
+static atomic_bool stopped;
+
+void notice(const char *format, ...)
+{
+    struct stat err;
+    va_list arguments;
+    va_start(arguments, format);
+    /* nbdkit in the background has standard error at /dev/null. */
+    if (fstat(STDERR_FILENO, &err) < 0 || (S_ISCHR(err.st_mode) && err.st_rdev == makedev(1, 3))) {
+        vsyslog(LOG_DAEMON | LOG_NOTICE, format, arguments);
+    } else {
+        char line[512];
+        vsnprintf(line, sizeof line, format, arguments);
+        fprintf(stderr, "mirror: %s\n", line);
+    }
+    va_end(arguments);
+}
+
+/* ---- opening */
+
+static int wrong(const struct image *image, const char *what)
+{
+    nbdkit_error("%s=%s: %s", image->parameter, image->path, what);
+    return -1;
+}
+
+static int read_key(uint8_t key[MIRROR_KEY_BYTES], const char *path)
+{
+    uint8_t bytes[MIRROR_KEY_BYTES + 1];
+    struct stat about;
+    const int file = open(path, O_RDONLY | O_CLOEXEC);
+    const ssize_t length = file < 0 ? -1 : read(file, bytes, sizeof bytes);
+    const bool is_open = file >= 0 && fstat(file, &about) == 0 && (about.st_mode & 077) != 0;
+    if (file >= 0)
+        close(file);
+    if (length != MIRROR_KEY_BYTES) {
+        nbdkit_error("key=%s: %s", path, length < 0 ? strerror(errno) : "a key file has exactly 32 bytes: give the one that the disk was made with");
+        return -1;
+    }
+    if (is_open)
+        notice("key=%s: others than its owner may read it: chmod 600 it", path);
+    memcpy(key, bytes, MIRROR_KEY_BYTES);
+    return 0;
+}
+
+static int open_image(struct image *image)
+{
+    struct stat about;
+    image->file = open(image->path, O_RDWR | O_CLOEXEC);
+    if (image->file < 0)
+        return wrong(image, errno == ENOENT ? "there is no such file: see the name; if the file is lost, mirror-volume replace makes it anew"
+                                            : strerror(errno));
+    if (fstat(image->file, &about) < 0 || !S_ISREG(about.st_mode))
+        return wrong(image, "is no regular file");
+    if (flock(image->file, LOCK_EX | LOCK_NB) < 0)
+        return wrong(image, errno == EWOULDBLOCK ? "is in use by another server or by mirror-volume: stop that one first" : strerror(errno));
+    return 0;
+}
+
+static int read_superblock(struct image *image, uint32_t role)
+{
+    static const char *const swapped[PLACES] = {"is the local file of a disk: give it as local=", "is the tags file of a disk: give it as tags=",
+                                                "is the remote file of a disk: give it as remote="};
+    const ssize_t length = pread(image->file, image->superblock, SUPERBLOCK_BYTES, 0);
+    if (length < 0)
+        return wrong(image, strerror(errno));
+    if (length < SUPERBLOCK_BYTES)
+        memset(image->superblock, 0, SUPERBLOCK_BYTES);
+    const char *what = superblock_decode(image->superblock, &image->fields);
+    if (what)
+        return wrong(image, what);
+    return image->fields.role == role ? 0 : wrong(image, swapped[image->fields.role]);
+}
+
+/* Whether the three are of one disk; else the one that two others speak against is named. */
+static int agree(void)
+{
+    const struct superblock *a = &images[LOCAL].fields, *b = &images[TAG].fields, *c = &images[REMOTE].fields;
+    const bool ab = superblock_same_disk(a, b), ac = superblock_same_disk(a, c), bc = superblock_same_disk(b, c);
+    if (ab && ac)
+        return 0;
+    const char *what = "is of another disk than the other two: give the files of one disk";
+    if (!ab && !ac && !bc) {
+        nbdkit_error("local=, tags= and remote= are of three different disks: give the files of one disk");
+        return -1;
+    }
+    return wrong(&images[ab ? REMOTE : ac ? TAG : LOCAL], what);
+}
+
+static int check_length(const struct image *image)
+{
+    struct stat about;
+    const uint64_t due = superblock_file_bytes(&image->fields, (int)image->fields.role);
+    if (fstat(image->file, &about) < 0)
+        return wrong(image, strerror(errno));
+    if ((uint64_t)about.st_size == due)
+        return 0;
+    nbdkit_error("%s=%s: has %lld bytes, and the disk's file has %" PRIu64 ": %s", image->parameter, image->path, (long long)about.st_size, due,
+                 (uint64_t)about.st_size < due ? "it was cut short; lengthen it by truncate -s with that length, and mend the disk"
+                                               : "see that it is the disk's file; what stands behind its end is not the disk's");
+    return -1;
+}
+
+static int check_key(const struct image *image, const struct disk *disk)
+{
+    uint32_t answer;
+    if (superblock_has_key(image->superblock, &image->fields, disk->key, &answer))
+        return 0;
+    return wrong(image, answer == MIRROR_DONE ? "the key is not that of this disk: give the key file that it was made with"
+                                              : mirror_text(answer));
+}
+
+/* After a kill the kernel may hold what has not landed, and after a failed flush what never will. So what is there is flushed, and then
+ * forgotten: what is read from now on is what the medium has. */
+static int settle(const struct image *image)
+{
+    if (fsync(image->file) < 0) {
+        nbdkit_error("%s=%s: flushing has failed: %s: see to the medium", image->parameter, image->path, strerror(errno));
+        return -1;
+    }
+    (void)posix_fadvise(image->file, 0, 0, POSIX_FADV_DONTNEED);
+    return 0;
+}
+
+int disk_open(struct disk *disk, char *const paths[PLACES], const char *key_path)
+{
+    for (int place = 0; place < PLACES; place++)
+        images[place].path = paths[place];
+    if (read_key(disk->key, key_path) < 0)
+        return -1;
+    for (int place = 0; place < PLACES; place++)
+        if (open_image(&images[place]) < 0)
+            return -1;
+    for (int place = 0; place < PLACES; place++)
+        if (read_superblock(&images[place], (uint32_t)place) < 0)
+            return -1;
+    if (agree() < 0)
+        return -1;
+    disk->shape = images[LOCAL].fields;
+    for (int place = 0; place < PLACES; place++)
+        if (check_length(&images[place]) < 0)
+            return -1;
+    for (int place = 0; place < PLACES; place++)
+        if (check_key(&images[place], disk) < 0)
+            return -1;
+    for (int place = 0; place < PLACES; place++)
+        if (settle(&images[place]) < 0)
+            return -1;
+    return 0;
+}
+
+/* ---- parts */
+
+uint64_t disk_part_first(const struct disk *disk, uint64_t part)
+{
+    return part * disk->shape.part_sectors;
+}
+
+size_t disk_part_sectors(const struct disk *disk, uint64_t part)
+{
+    const uint64_t left = disk->shape.sectors - disk_part_first(disk, part);
+    return left < disk->shape.part_sectors ? (size_t)left : disk->shape.part_sectors;
+}
+
+/* ---- reading and writing */
+
+static off_t place_at(const struct disk *disk, int place, uint64_t sector)
+{
+    return (off_t)(SUPERBLOCK_BYTES + sector * superblock_unit(&disk->shape, place));
+}
+
+void disk_read(const struct disk *disk, int place, uint64_t first, size_t count, uint8_t *to)
+{
+    const size_t unit = superblock_unit(&disk->shape, place), length = count * unit;
+    const off_t from = place_at(disk, place, first);
+    for (size_t done = 0; done < length;) {
+        const ssize_t got = pread(images[place].file, to + done, length - done, from + (off_t)done);
+        if (got > 0) {
+            done += (size_t)got;
+        } else if (got == 0 || errno != EINTR) {
+            const char *why = got == 0 ? "the file ends before it" : strerror(errno);
+            nbdkit_error("sector %" PRIu64 ": %s cannot be read: %s", first + done / unit, images[place].parameter, why);
+            memset(to + done / unit * unit, 0, unit);
+            done = (done / unit + 1) * unit;
+        }
+    }
+}
+
+void disk_forget(const struct disk *disk, uint64_t first, size_t count)
+{
+    for (int place = 0; place < PLACES; place++)
+        (void)posix_fadvise(images[place].file, place_at(disk, place, first), (off_t)(count * superblock_unit(&disk->shape, place)),
+                            POSIX_FADV_DONTNEED);
+}
+
+int disk_write(const struct disk *disk, int place, uint64_t first, size_t count, const uint8_t *from)
+{
+    const size_t unit = superblock_unit(&disk->shape, place), length = count * unit;
+    const off_t to = place_at(disk, place, first);
+    if (stopped) {
+        nbdkit_error("sector %" PRIu64 ": not written, since flushing has failed earlier", first);
+        errno = EIO;
+        return -1;
+    }
+    for (size_t done = 0; done < length;) {
+        const ssize_t put = pwrite(images[place].file, from + done, length - done, to + (off_t)done);
+        if (put > 0) {
+            done += (size_t)put;
+        } else if (put == 0 || errno != EINTR) {
+            const int why = put == 0 ? EIO : errno;
+            nbdkit_error("sector %" PRIu64 ": %s cannot be written: %s", first + done / unit, images[place].parameter, strerror(why));
+            errno = why;
+            return -1;
+        }
+    }
+    return 0;
+}
+
+/* ---- flushing */
+
+int disk_is_stopped(void)
+{
+    return stopped;
+}
+
+/* Flushes once for all that have asked so far. One thread at a time: the kernel tells of a failure once, and all have to know. */
+static void flush(struct image *image)
+{
+    const uint64_t covers = image->asked;
+    image->flushing = true;
+    pthread_mutex_unlock(&image->mutex);
+    const int failed = fdatasync(image->file) < 0 ? errno : 0;
+    pthread_mutex_lock(&image->mutex);
+    image->flushing = false;
+    if (failed) {
+        stopped = true;
+        nbdkit_error("%s: flushing has failed: %s: nothing more is written; stop the server, see to the medium, and start again",
+                     image->parameter, strerror(failed));
+    } else {
+        image->landed = covers;
+    }
+    pthread_cond_broadcast(&image->turn);
+}
+
+int disk_land(int place)
+{
+    struct image *image = &images[place];
+    pthread_mutex_lock(&image->mutex);
+    const uint64_t mine = ++image->asked;
+    while (image->landed < mine && !stopped) {
+        if (image->flushing)
+            pthread_cond_wait(&image->turn, &image->mutex);
+        else
+            flush(image);
+    }
+    const int result = image->landed < mine ? -1 : 0;
+    pthread_mutex_unlock(&image->mutex);
+    return result;
+}

@@ -1,0 +1,23 @@
+/* The map of suspect sectors, in memory, a map of the library's for each part. A thread lends the calls a map of its own, for a call may
+ * write the one that it is lent: the bits of its sectors are brought there before, and taken back when what the calls wrote has landed.
+ * SPDX-License-Identifier: Apache-2.0 */
+#ifndef SUSPECTS_H
+#define SUSPECTS_H
+
+#include "disk.h"
+
+/* Starts the map: all sectors are suspect. -1 if there is no memory. */
+int suspects_start(const struct disk *disk);
+
+/* All sectors are suspect again: what is on the medium is unknown. */
+void suspects_start_anew(void);
+
+/* Brings the bits of sectors `first` and on of a part into a map of this part, takes them from it, and sets them. */
+void suspects_bring(uint64_t part, size_t first, size_t count, uint64_t *map);
+void suspects_take(uint64_t part, size_t first, size_t count, const uint64_t *map);
+void suspects_set(uint64_t part, size_t first, size_t count);
+
+bool suspects_has(uint64_t part, size_t number);
+uint64_t suspects_count(void);
+
+#endif
