@@ -70,7 +70,8 @@ static int read_key(uint8_t key[MIRROR_KEY_BYTES], const char *path)
     if (file >= 0)
         close(file);
     if (length != MIRROR_KEY_BYTES) {
-        nbdkit_error("key=%s: %s", path, length < 0 ? strerror(errno) : "a key file has exactly 32 bytes: give the one that the disk was made with");
+        nbdkit_error("key=%s: %s", path,
+                     length < 0 ? strerror(errno) : "a key file has exactly 32 bytes: give the one that the disk was made with");
         return -1;
     }
     if (is_open)
@@ -84,19 +85,22 @@ static int open_image(struct image *image)
     struct stat about;
     image->file = open(image->path, O_RDWR | O_CLOEXEC);
     if (image->file < 0)
-        return wrong(image, errno == ENOENT ? "there is no such file: see the name; if the file is lost, mirror-volume replace makes it anew"
-                                            : strerror(errno));
+        return wrong(image, errno == ENOENT
+                                ? "there is no such file: see the name; if the file is lost, mirror-volume replace makes it anew"
+                                : strerror(errno));
     if (fstat(image->file, &about) < 0 || !S_ISREG(about.st_mode))
         return wrong(image, "is no regular file");
     if (flock(image->file, LOCK_EX | LOCK_NB) < 0)
-        return wrong(image, errno == EWOULDBLOCK ? "is in use by another server or by mirror-volume: stop that one first" : strerror(errno));
+        return wrong(image,
+                     errno == EWOULDBLOCK ? "is in use by another server or by mirror-volume: stop that one first" : strerror(errno));
     return 0;
 }
 
 static int read_superblock(struct image *image, uint32_t role)
 {
-    static const char *const swapped[PLACES] = {"is the local file of a disk: give it as local=", "is the tags file of a disk: give it as tags=",
-                                                "is the remote file of a disk: give it as remote="};
+    static const char *const swapped[PLACES] = {
+        "is the local file of a disk: give it as local=", "is the tags file of a disk: give it as tags=",
+        "is the remote file of a disk: give it as remote="};
     const ssize_t length = pread(image->file, image->superblock, SUPERBLOCK_BYTES, 0);
     if (length < 0)
         return wrong(image, strerror(errno));
@@ -131,7 +135,8 @@ static int check_length(const struct image *image)
         return wrong(image, strerror(errno));
     if ((uint64_t)about.st_size == due)
         return 0;
-    nbdkit_error("%s=%s: has %lld bytes, and the disk's file has %" PRIu64 ": %s", image->parameter, image->path, (long long)about.st_size, due,
+    nbdkit_error("%s=%s: has %lld bytes, and the disk's file has %" PRIu64 ": %s", image->parameter, image->path, (long long)about.st_size,
+                 due,
                  (uint64_t)about.st_size < due ? "it was cut short; lengthen it by truncate -s with that length, and mend the disk"
                                                : "see that it is the disk's file; what stands behind its end is not the disk's");
     return -1;
@@ -142,8 +147,8 @@ static int check_key(const struct image *image, const struct disk *disk)
     uint32_t answer;
     if (superblock_has_key(image->superblock, &image->fields, disk->key, &answer))
         return 0;
-    return wrong(image, answer == MIRROR_DONE ? "the key is not that of this disk: give the key file that it was made with"
-                                              : mirror_text(answer));
+    return wrong(image,
+                 answer == MIRROR_DONE ? "the key is not that of this disk: give the key file that it was made with" : mirror_text(answer));
 }
 
 /* After a kill the kernel may hold what has not landed, and after a failed flush what never will. So what is there is flushed, and then
@@ -205,21 +210,48 @@ static off_t place_at(const struct disk *disk, int place, uint64_t sector)
     return (off_t)(SUPERBLOCK_BYTES + sector * superblock_unit(&disk->shape, place));
 }
 
+/* What cannot be read: a line for neighbours. */
+static void log_unread(int place, uint64_t first, uint64_t last, const char *why)
+{
+    if (first == last)
+        nbdkit_error("sector %" PRIu64 ": %s cannot be read: %s", first, images[place].parameter, why);
+    else
+        nbdkit_error("sectors %" PRIu64 " to %" PRIu64 ": %s cannot be read: %s", first, last, images[place].parameter, why);
+}
+
+/* Up to where nothing is tried after a failed read at `done`: the end of the page, and of the sector there. A medium that is asked again
+ * for the same page takes its time again, and a page has 256 tags. */
+static size_t behind_page(off_t from, size_t done, size_t unit, size_t length)
+{
+    const size_t page = 4096 - (size_t)(from + (off_t)done) % 4096, end = (done + page + unit - 1) / unit * unit;
+    return end < length ? end : length;
+}
+
 void disk_read(const struct disk *disk, int place, uint64_t first, size_t count, uint8_t *to)
 {
     const size_t unit = superblock_unit(&disk->shape, place), length = count * unit;
     const off_t from = place_at(disk, place, first);
+    size_t unread = 0; /* sectors just before `done` */
+    const char *why = "";
     for (size_t done = 0; done < length;) {
         const ssize_t got = pread(images[place].file, to + done, length - done, from + (off_t)done);
+        if (got < 0 && errno == EINTR)
+            continue;
         if (got > 0) {
+            if (unread)
+                log_unread(place, first + done / unit - unread, first + done / unit - 1, why);
+            unread = 0;
             done += (size_t)got;
-        } else if (got == 0 || errno != EINTR) {
-            const char *why = got == 0 ? "the file ends before it" : strerror(errno);
-            nbdkit_error("sector %" PRIu64 ": %s cannot be read: %s", first + done / unit, images[place].parameter, why);
-            memset(to + done / unit * unit, 0, unit);
-            done = (done / unit + 1) * unit;
+        } else {
+            const size_t start = done / unit * unit;
+            why = got == 0 ? "the file ends before it" : strerror(errno);
+            done = got == 0 ? length : behind_page(from, done, unit, length);
+            memset(to + start, 0, done - start);
+            unread += (done - start) / unit;
         }
     }
+    if (unread)
+        log_unread(place, first + count - unread, first + count - 1, why);
 }
 
 void disk_forget(const struct disk *disk, uint64_t first, size_t count)

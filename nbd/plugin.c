@@ -42,7 +42,8 @@ static int check_config(void)
 {
     for (int place = 0; place < PLACES; place++)
         if (!paths[place]) {
-            nbdkit_error("%s= is missing: name the disk's three files and its key, local=FILE tags=FILE remote=FILE key=FILE", parameters[place]);
+            nbdkit_error("%s= is missing: name the disk's three files and its key, local=FILE tags=FILE remote=FILE key=FILE",
+                         parameters[place]);
             return -1;
         }
     if (!key_path) {
@@ -57,12 +58,13 @@ static int check_config(void)
 static int get_ready(void)
 {
     if (mirror_version() != MIRROR_VERSION) {
-        nbdkit_error("the plugin was compiled with mirror.h of release " MIRROR_VERSION_TEXT " and linked with the library of another: build it anew");
+        nbdkit_error("the plugin was compiled with mirror.h of release " MIRROR_VERSION_TEXT
+                     " and linked with the library of another: build it anew");
         return -1;
     }
     if (disk_open(&disk, paths, key_path) < 0)
         return -1;
-    if (suspects_start(&disk) < 0) {
+    if (suspects_start(&disk) < 0 || run_start() < 0) {
         nbdkit_error("there is no memory for the map of suspect sectors");
         return -1;
     }
@@ -181,7 +183,7 @@ static int block_size(void *handle, uint32_t *minimum, uint32_t *preferred, uint
 {
     (void)handle;
     *minimum = 1;
-    *preferred = disk.shape.s < 4096 ? 4096 : disk.shape.s;
+    *preferred = 4096;
     *maximum = UINT32_MAX;
     return 0;
 }

@@ -21,7 +21,6 @@ struct window {
     size_t held; /* bytes of the images that were filled since it was empty */
 };
 
-static pthread_once_t once = PTHREAD_ONCE_INIT;
 static pthread_key_t window_of_thread;
 
 static void free_window(void *at)
@@ -33,9 +32,9 @@ static void free_window(void *at)
     free(window);
 }
 
-static void make_thread_key(void)
+int run_start(void)
 {
-    (void)pthread_key_create(&window_of_thread, free_window);
+    return pthread_key_create(&window_of_thread, free_window) == 0 ? 0 : -1;
 }
 
 static size_t most_sectors(const struct disk *disk)
@@ -63,7 +62,6 @@ static struct window *make_window(const struct disk *disk)
 
 static struct window *own_window(const struct disk *disk)
 {
-    (void)pthread_once(&once, make_thread_key);
     struct window *window = pthread_getspecific(window_of_thread);
     if (!window && (window = make_window(disk)) && pthread_setspecific(window_of_thread, window) != 0) {
         free_window(window);

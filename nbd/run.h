@@ -1,9 +1,9 @@
 /* A run: neighbouring sectors of one part that are worked on at once, in memory of the thread's own.
  *
  * The calls never see the files. They are lent a WINDOW, private memory as long as a part's images, of which only the run's sectors are
- * filled; the rest is address space on which nothing is spent. It is not a shared mapping of the files: a call may store a tag byte by byte,
- * and a kill between two bytes would leave a mixture in the file, which can lose the sector (tests/disk/steptag.c shows it). From the window
- * whole places are written out.
+ * filled; the rest is address space on which nothing is spent. It is not a shared mapping of the files: a call may store a tag byte by
+ * byte, and a kill between two bytes would leave a mixture in the file, which can lose the sector (tests/disk/steptag.c shows it). From the
+ * window whole places are written out.
  * SPDX-License-Identifier: Apache-2.0 */
 #ifndef RUN_H
 #define RUN_H
@@ -21,6 +21,9 @@ struct run {
     uint8_t *plain;              /* a plaintext for each sector of the run */
     uint8_t *found;              /* for each sector what a call answered */
 };
+
+/* Once, before the first run. -1 if it cannot be done. */
+int run_start(void);
 
 /* How many of count sectors, from the disk's sector `first` on, go into one run. */
 size_t run_length(const struct disk *disk, uint64_t first, uint64_t count);

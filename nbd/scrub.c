@@ -98,7 +98,8 @@ static void *work(void *unused)
     scrub.began = scrub.said = now();
     pass(true);
     pass(false);
-    notice("scrub: %s: %" PRIu64 " of %" PRIu64 " sectors read, %" PRIu64 " doubtful%s, %" PRIu64 " lost or clashing, %" PRIu64 " suspect now",
+    notice("scrub: %s: %" PRIu64 " of %" PRIu64 " sectors read, %" PRIu64 " doubtful%s, %" PRIu64 " lost or clashing, %" PRIu64
+           " suspect now",
            scrub.ends ? "stopped" : "done", scrub.read, scrub.disk->shape.sectors, scrub.doubtful, scrub.mend ? " and mended" : "",
            scrub.refused, suspects_count());
     return NULL;

@@ -29,16 +29,42 @@ static bool is_doubtful(uint32_t answer)
     return answer >= MIRROR_DOUBTFUL_LOCAL && answer <= MIRROR_DOUBTFUL_REMOTE;
 }
 
+static bool is_refusal(uint32_t answer)
+{
+    return mirror_is_refusal(answer);
+}
+
 static const char *text(uint32_t answer)
 {
-    return answer == MIRROR_REFUSED_LOST ? "lost: no plaintext fits two places; to give it up, write all of it anew with overwrite-lost=true"
+    return answer == MIRROR_REFUSED_LOST
+               ? "lost: no plaintext fits two places; to give it up, write all of it anew with overwrite-lost=true"
            : answer == MIRROR_REFUSED_CLASHING ? "clashing: more than one plaintext fits two places; docs/DISK.md says what to do"
                                                : mirror_text(answer);
 }
 
+/* Logs one thing of the sectors i to last of the run. */
+static void log_sectors(const struct run *run, size_t i, size_t last, const char *what, const char *then)
+{
+    if (i == last)
+        nbdkit_error("sector %" PRIu64 ": %s%s", run_sector(run, i), what, then);
+    else
+        nbdkit_error("sectors %" PRIu64 " to %" PRIu64 ": %s%s", run_sector(run, i), run_sector(run, last), what, then);
+}
+
+/* Logs the sectors of which a call gave an answer of this kind: a line for neighbours with the same one. */
+static void log_found(const struct run *run, bool (*kind)(uint32_t), const char *then)
+{
+    for (size_t i = 0, end; i < run->count; i = end) {
+        for (end = i + 1; end < run->count && run->found[end] == run->found[i];)
+            end++;
+        if (kind(run->found[i]))
+            log_sectors(run, i, end - 1, text(run->found[i]), then);
+    }
+}
+
 static int refused(const struct run *run, size_t i, uint32_t answer)
 {
-    nbdkit_error("sector %" PRIu64 ": %s", run_sector(run, i), text(answer));
+    log_sectors(run, i, i, text(answer), "");
     nbdkit_set_error(EIO);
     return -1;
 }
@@ -90,34 +116,25 @@ static void mend_found(const struct run *run, struct written *written)
     (void)land(written);
 }
 
-static void log_doubtful(const struct run *run, const char *then)
-{
-    for (size_t i = 0; i < run->count; i++)
-        if (is_doubtful(run->found[i]))
-            nbdkit_error("sector %" PRIu64 ": %s, %s", run_sector(run, i), mirror_text(run->found[i]), then);
-}
-
 int sectors_read(const struct run *run, bool mend)
 {
     struct written written = {.failed = false};
     const size_t s = run->volume.s;
-    size_t doubtful = 0;
-    int result = 0;
+    const bool mends = mend && !disk_is_stopped();
+    size_t doubtful = 0, refusals = 0;
     for (size_t i = 0; i < run->count; i++) {
-        const uint32_t answer = mirror_volume_read(&run->volume, run->first + i, run->plain + i * s, s);
-        run->found[i] = (uint8_t)answer;
-        doubtful += is_doubtful(answer);
-        if (mirror_is_refusal(answer))
-            result = refused(run, i, answer);
+        run->found[i] = (uint8_t)mirror_volume_read(&run->volume, run->first + i, run->plain + i * s, s);
+        doubtful += is_doubtful(run->found[i]);
+        refusals += is_refusal(run->found[i]);
     }
-    if (doubtful && mend && !disk_is_stopped()) {
+    if (doubtful && mends)
         mend_found(run, &written);
-        log_doubtful(run, written.failed ? "not mended" : "mended");
-    } else if (doubtful) {
-        log_doubtful(run, "left as it is");
-    }
+    log_found(run, is_doubtful, !mends ? ", left as it is" : written.failed ? ", not mended" : ", mended");
+    log_found(run, is_refusal, "");
     settle_map(run, &written);
-    return result;
+    if (refusals)
+        nbdkit_set_error(EIO);
+    return refusals ? -1 : 0;
 }
 
 /* ---- writing */
@@ -132,24 +149,24 @@ static uint32_t stage(const struct run *run, int place, size_t i)
                           : mirror_volume_third_stage(&run->volume, number, plain, s);
 }
 
-/* A sector that the first stage has refused is made whole: mended, or blanked if it is lost and may be overwritten. It keeps what was found
- * there. */
+/* A sector that the first stage has refused is made whole: mended, or blanked if it is lost and may be overwritten. What was found there is
+ * kept, and for a blanked one that it was not whole. */
 static int make_whole(const struct run *run, size_t i, bool overwrite_lost, struct written *written)
 {
     const uint32_t answer = mirror_volume_mend(&run->volume, run->first + i);
-    run->found[i] = (uint8_t)answer;
-    if (is_doubtful(answer)) {
-        write_out(run, (int)(answer - MIRROR_DOUBTFUL_LOCAL), i, 1, written);
+    if (answer == MIRROR_REFUSED_LOST && overwrite_lost) {
+        const uint32_t blanked = mirror_volume_blank(&run->volume, run->first + i);
+        if (blanked != MIRROR_DONE)
+            return refused(run, i, blanked);
+        for (int place = 0; place < PLACES; place++)
+            write_out(run, place, i, 1, written);
+        log_sectors(run, i, i, "lost, and blanked, since all of it is written anew", "");
         return 0;
     }
-    if (answer != MIRROR_REFUSED_LOST || !overwrite_lost)
+    run->found[i] = (uint8_t)answer;
+    if (!is_doubtful(answer))
         return refused(run, i, answer);
-    const uint32_t blanked = mirror_volume_blank(&run->volume, run->first + i);
-    if (blanked != MIRROR_DONE)
-        return refused(run, i, blanked);
-    for (int place = 0; place < PLACES; place++)
-        write_out(run, place, i, 1, written);
-    nbdkit_error("sector %" PRIu64 ": lost, and blanked, since all of it is written anew", run_sector(run, i));
+    write_out(run, (int)(answer - MIRROR_DOUBTFUL_LOCAL), i, 1, written);
     return 0;
 }
 
@@ -169,7 +186,7 @@ static int begin(const struct run *run, bool overwrite_lost, struct written *wri
             result |= refused(run, i, run->found[i]);
     if (!unready || land(written) < 0 || result < 0)
         return written->failed ? -1 : result;
-    log_doubtful(run, "mended before it is written");
+    log_found(run, is_doubtful, ", mended before it is written");
     for (size_t i = 0; i < run->count; i++)
         if (run->found[i] != MIRROR_DONE) {
             const uint32_t answer = stage(run, LOCAL, i);
