@@ -92,7 +92,7 @@ static int land(struct written *written)
 static void settle_map(const struct run *run, const struct written *written)
 {
     if (disk_is_stopped())
-        suspects_start_anew();
+        suspects_give_up();
     else if (written->failed)
         suspects_set(run->part, run->first, run->count);
     else

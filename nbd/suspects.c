@@ -37,10 +37,13 @@ int suspects_start(const struct disk *of)
     return maps ? start_all() : -1;
 }
 
-void suspects_start_anew(void)
+void suspects_give_up(void)
 {
+    static bool given_up;
     pthread_mutex_lock(&mutex);
-    (void)start_all(); /* the same numbers were accepted at the start */
+    if (!given_up)
+        (void)start_all(); /* the same numbers were accepted at the start */
+    given_up = true;
     pthread_mutex_unlock(&mutex);
 }
 

@@ -9,8 +9,8 @@
 /* Starts the map: all sectors are suspect. -1 if there is no memory. */
 int suspects_start(const struct disk *disk);
 
-/* All sectors are suspect again: what is on the medium is unknown. */
-void suspects_start_anew(void);
+/* What is on the medium is unknown: all sectors are suspect again. Done the first time that it is called. */
+void suspects_give_up(void);
 
 /* Brings the bits of sectors `first` and on of a part into a map of this part, takes them from it, and sets them. */
 void suspects_bring(uint64_t part, size_t first, size_t count, uint64_t *map);
