@@ -51,12 +51,20 @@ static void log_sectors(const struct run *run, size_t i, size_t last, const char
         nbdkit_error("sectors %" PRIu64 " to %" PRIu64 ": %s%s", run_sector(run, i), run_sector(run, last), what, then);
 }
 
+/* Behind the last of the neighbours, from the i-th sector on, of which the same was found. */
+static size_t same_until(const struct run *run, size_t i)
+{
+    size_t end = i + 1;
+    while (end < run->count && run->found[end] == run->found[i])
+        end++;
+    return end;
+}
+
 /* Logs the sectors of which a call gave an answer of this kind: a line for neighbours with the same one. */
 static void log_found(const struct run *run, bool (*kind)(uint32_t), const char *then)
 {
     for (size_t i = 0, end; i < run->count; i = end) {
-        for (end = i + 1; end < run->count && run->found[end] == run->found[i];)
-            end++;
+        end = same_until(run, i);
         if (kind(run->found[i]))
             log_sectors(run, i, end - 1, text(run->found[i]), then);
     }
@@ -104,14 +112,16 @@ static void settle_map(const struct run *run, const struct written *written)
 /* Mends the sectors that a read has found doubtful. */
 static void mend_found(const struct run *run, struct written *written)
 {
-    for (size_t i = 0; i < run->count; i++) {
+    for (size_t i = 0, end; i < run->count; i = end) {
+        end = same_until(run, i);
         if (!is_doubtful(run->found[i]))
             continue;
-        const uint32_t answer = mirror_volume_mend(&run->volume, run->first + i);
-        if (answer == run->found[i])
-            write_out(run, (int)(answer - MIRROR_DOUBTFUL_LOCAL), i, 1, written);
-        else
-            (void)refused(run, i, answer);
+        for (size_t j = i; j < end; j++) {
+            const uint32_t answer = mirror_volume_mend(&run->volume, run->first + j);
+            if (answer != run->found[j])
+                written->failed = refused(run, j, answer) < 0;
+        }
+        write_out(run, (int)(run->found[i] - MIRROR_DOUBTFUL_LOCAL), i, end - i, written);
     }
     (void)land(written);
 }
