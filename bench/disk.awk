@@ -37,7 +37,7 @@ function ratio(a, b,    r, n, list) {
 # (a - b) as a share of `whole`; b is "" for nothing.
 function share(a, b, whole,    r, n, list) {
     for (r = 1; r <= rounds; r++)
-        if ((a, r) in figure) list[++n] = (figure[a, r] - (b == "" ? 0 : figure[b, r])) / figure[whole, r]
+        if ((a, r) in figure && (whole, r) in figure) list[++n] = (figure[a, r] - (b == "" ? 0 : figure[b, r])) / figure[whole, r]
     return spread(list, n + 0, "share")
 }
 
