@@ -8,8 +8,8 @@
 /* What every call on a sector takes: before the plaintext, or the images, and from there on. */
 #define SECTOR const uint8_t *key, size_t key_len, uint64_t volume, size_t s, size_t n, size_t number
 #define PLAIN const uint8_t *plain, size_t plain_len
-#define IMAGES(kind) \
-    kind *local, size_t local_len, kind *tags, size_t tags_len, kind *remote, size_t remote_len, uint64_t *map, size_t map_len
+#define IMAGES(kind) kind *local, size_t local_len, kind *tags, size_t tags_len, kind *remote, size_t remote_len, MAP
+#define MAP uint64_t *map, size_t map_len
 #define UNUSED (void)key, (void)key_len, (void)volume, (void)n, (void)local_len, (void)tags_len, (void)remote_len, (void)map_len
 
 uint32_t __wrap_mirror_first_stage(SECTOR, PLAIN, IMAGES(uint8_t));
