@@ -22,6 +22,8 @@
 static struct image {
     const char *parameter, *path;
     int file;
+    dev_t device;
+    ino_t inode;
     uint8_t superblock[SUPERBLOCK_BYTES];
     struct superblock fields;
     /* Flushing: how often it was asked for, and up to which asking it is done. */
@@ -90,6 +92,11 @@ static int open_image(struct image *image)
                                 : strerror(errno));
     if (fstat(image->file, &about) < 0 || !S_ISREG(about.st_mode))
         return wrong(image, "is no regular file");
+    image->device = about.st_dev;
+    image->inode = about.st_ino;
+    for (const struct image *other = images; other != image; other++)
+        if (other->device == image->device && other->inode == image->inode)
+            return wrong(image, "is named twice: give each of the disk's three files once");
     if (flock(image->file, LOCK_EX | LOCK_NB) < 0)
         return wrong(image,
                      errno == EWOULDBLOCK ? "is in use by another server or by mirror-volume: stop that one first" : strerror(errno));
