@@ -1,0 +1,187 @@
+//! The superblock of a file, as FORMAT.md has it.
+
+use std::fmt;
+
+use mirror::{seal, Refusal, KEY_BYTES, TAG_BYTES};
+
+use crate::shape::{Role, Shape, SUPERBLOCK_BYTES};
+
+const MAGIC: &[u8; 8] = b"DCMIRROR";
+
+/// The version of the format that is written and known here.
+const VERSION: u32 = 1;
+
+/// Where the CRC stands: it is of all bytes before it.
+const CRC_AT: usize = 4076;
+
+/// Where the key check stands: it is of all bytes before it.
+const CHECK_AT: usize = 4080;
+
+/// The number that a disk's three files share.
+#[derive(Clone, Copy, Debug, PartialEq, Eq)]
+pub struct Uuid(pub [u8; 16]);
+
+impl Uuid {
+    /// A UUID of version 4 from 16 random bytes.
+    pub fn from_random(mut bytes: [u8; 16]) -> Uuid {
+        bytes[6] = bytes[6] & 0x0f | 0x40;
+        bytes[8] = bytes[8] & 0x3f | 0x80;
+        Uuid(bytes)
+    }
+}
+
+impl fmt::Display for Uuid {
+    fn fmt(&self, f: &mut fmt::Formatter<'_>) -> fmt::Result {
+        for (place, byte) in self.0.iter().enumerate() {
+            if [4, 6, 8, 10].contains(&place) {
+                f.write_str("-")?;
+            }
+            write!(f, "{byte:02x}")?;
+        }
+        Ok(())
+    }
+}
+
+/// What a disk's three superblocks agree in.
+#[derive(Clone, Copy, Debug, PartialEq, Eq)]
+pub struct Superblock {
+    pub uuid: Uuid,
+    pub shape: Shape,
+}
+
+/// Why bytes are no superblock, in the order in which it is looked for.
+#[derive(Debug, PartialEq, Eq)]
+pub enum Fault {
+    Magic,
+    Crc,
+    Version(u32),
+    Role(u32),
+    Numbers(String),
+}
+
+impl Superblock {
+    /// The bytes of the superblock of one file.
+    pub fn encode(
+        &self,
+        role: Role,
+        key: &[u8; KEY_BYTES],
+    ) -> Result<[u8; SUPERBLOCK_BYTES], Refusal> {
+        let mut bytes = self.encode_without_check(role);
+        let check = key_check(&bytes, role, self.shape.first_number, key)?;
+        bytes[CHECK_AT..].copy_from_slice(&check);
+        Ok(bytes)
+    }
+
+    fn encode_without_check(&self, role: Role) -> [u8; SUPERBLOCK_BYTES] {
+        let mut bytes = [0; SUPERBLOCK_BYTES];
+        let mut put = |at: usize, field: &[u8]| bytes[at..at + field.len()].copy_from_slice(field);
+        let shape = &self.shape;
+        put(0, MAGIC);
+        put(8, &VERSION.to_le_bytes());
+        put(12, &role.number().to_le_bytes());
+        put(16, &self.uuid.0);
+        put(32, &(shape.sector_bytes as u32).to_le_bytes());
+        put(36, &(shape.part_sectors as u32).to_le_bytes());
+        put(40, &shape.sectors.to_le_bytes());
+        put(48, &(shape.parts() as u32).to_le_bytes());
+        put(56, &shape.first_number.to_le_bytes());
+        let crc = crc32(&bytes[..CRC_AT]);
+        bytes[CRC_AT..CHECK_AT].copy_from_slice(&crc.to_le_bytes());
+        bytes
+    }
+
+    /// What the bytes say, and of which file they are. The key check is not looked
+    /// at.
+    pub fn decode(bytes: &[u8; SUPERBLOCK_BYTES]) -> Result<(Superblock, Role), Fault> {
+        if &bytes[..8] != MAGIC {
+            return Err(Fault::Magic);
+        }
+        if u32_at(bytes, CRC_AT) != crc32(&bytes[..CRC_AT]) {
+            return Err(Fault::Crc);
+        }
+        match u32_at(bytes, 8) {
+            VERSION => {}
+            other => return Err(Fault::Version(other)),
+        }
+        let number = u32_at(bytes, 12);
+        let role = Role::ALL.into_iter().find(|role| role.number() == number);
+        let role = role.ok_or(Fault::Role(number))?;
+        let mut uuid = Uuid([0; 16]);
+        uuid.0.copy_from_slice(&bytes[16..32]);
+        let shape = decode_shape(bytes)?;
+        Ok((Superblock { uuid, shape }, role))
+    }
+}
+
+fn decode_shape(bytes: &[u8; SUPERBLOCK_BYTES]) -> Result<Shape, Fault> {
+    let shape = Shape {
+        sector_bytes: u32_at(bytes, 32) as usize,
+        part_sectors: u32_at(bytes, 36).into(),
+        sectors: u64_at(bytes, 40),
+        first_number: u64_at(bytes, 56),
+    };
+    if let Some(fault) = shape.fault() {
+        return Err(Fault::Numbers(fault));
+    }
+    let parts = u32_at(bytes, 48);
+    if u64::from(parts) != shape.parts() {
+        let fault = format!("{parts} parts, where {} are due", shape.parts());
+        return Err(Fault::Numbers(fault));
+    }
+    Ok(shape)
+}
+
+/// The key check: the tag of the bytes before it, at an address that no sector has.
+pub fn key_check(
+    bytes: &[u8; SUPERBLOCK_BYTES],
+    role: Role,
+    first_number: u64,
+    key: &[u8; KEY_BYTES],
+) -> Result<[u8; TAG_BYTES], Refusal> {
+    let mut tag = [0; TAG_BYTES];
+    let (mut local, mut remote) = ([0; CHECK_AT], [0; CHECK_AT]);
+    let address = u64::MAX - u64::from(role.number());
+    seal(
+        key,
+        first_number,
+        address,
+        &bytes[..CHECK_AT],
+        &mut local,
+        &mut tag,
+        &mut remote,
+    )?;
+    Ok(tag)
+}
+
+/// Whether the key check in the bytes is the one that the key gives.
+pub fn key_fits(
+    bytes: &[u8; SUPERBLOCK_BYTES],
+    role: Role,
+    first_number: u64,
+    key: &[u8; KEY_BYTES],
+) -> Result<bool, Refusal> {
+    Ok(bytes[CHECK_AT..] == key_check(bytes, role, first_number, key)?)
+}
+
+fn u32_at(bytes: &[u8; SUPERBLOCK_BYTES], at: usize) -> u32 {
+    let mut field = [0; 4];
+    field.copy_from_slice(&bytes[at..at + 4]);
+    u32::from_le_bytes(field)
+}
+
+fn u64_at(bytes: &[u8; SUPERBLOCK_BYTES], at: usize) -> u64 {
+    let mut field = [0; 8];
+    field.copy_from_slice(&bytes[at..at + 8]);
+    u64::from_le_bytes(field)
+}
+
+/// The CRC-32 of gzip.
+fn crc32(bytes: &[u8]) -> u32 {
+    let step = |crc: u32| match crc & 1 {
+        0 => crc >> 1,
+        _ => crc >> 1 ^ 0xedb8_8320,
+    };
+    !bytes.iter().fold(!0, |crc, byte| {
+        (0..8).fold(crc ^ u32::from(*byte), |crc, _| step(crc))
+    })
+}

@@ -1,0 +1,91 @@
+//! A part of the disk in memory.
+
+use std::ops::Range;
+
+use mirror::{map_words, Volume};
+
+use crate::disk::Disk;
+use crate::failure::Failure;
+use crate::shape::Role;
+
+/// The images of one part, a volume of the library. They are as long as the part;
+/// what was never touched is zeros that take no memory. So a window in which few
+/// sectors are loaded is small.
+pub struct Window<'d> {
+    disk: &'d Disk,
+    part: u64,
+    pub volume: Volume<'d, Vec<u8>, Vec<u64>>,
+    /// How many places could not be read, by their roles.
+    pub unreadable: [u64; 3],
+}
+
+impl<'d> Window<'d> {
+    /// A window to a part, with nothing loaded.
+    pub fn new(disk: &'d Disk, part: u64) -> Result<Window<'d>, Failure> {
+        let shape = &disk.superblock.shape;
+        let count = shape.sectors_of(part);
+        let [local, tags, remote] = Role::ALL.map(|role| vec![0; count * shape.place_bytes(role)]);
+        let mut volume = Volume::new(
+            &disk.key[..],
+            shape.number_of(part),
+            shape.sector_bytes,
+            count,
+            local,
+            tags,
+            remote,
+            vec![0; map_words(count)],
+        );
+        volume.start_map()?;
+        Ok(Window {
+            disk,
+            part,
+            volume,
+            unreadable: [0; 3],
+        })
+    }
+
+    /// The disk's number of a sector of the part.
+    pub fn sector_of(&self, number: usize) -> u64 {
+        self.disk.superblock.shape.sector_of(self.part, number)
+    }
+
+    /// Loads sectors from the files. A place that cannot be read is a damaged place.
+    pub fn load(&mut self, numbers: Range<usize>) {
+        for role in Role::ALL {
+            let bytes = self.bytes_of(role, &numbers);
+            let offset = self.offset_of(role, numbers.start);
+            let image = match role {
+                Role::Local => self.volume.local_mut(),
+                Role::Tags => self.volume.tags_mut(),
+                Role::Remote => self.volume.remote_mut(),
+            };
+            let place_bytes = self.disk.superblock.shape.place_bytes(role);
+            let member = &self.disk.members[role.index()];
+            let unreadable = member.load(&mut image[bytes], place_bytes, offset);
+            self.unreadable[role.index()] += unreadable;
+        }
+    }
+
+    /// Writes the places of sectors out, in one write. A tag never crosses a unit of
+    /// the medium, so it goes out whole.
+    pub fn write_out(&self, role: Role, numbers: Range<usize>) -> Result<(), Failure> {
+        let image = match role {
+            Role::Local => self.volume.local(),
+            Role::Tags => self.volume.tags(),
+            Role::Remote => self.volume.remote(),
+        };
+        let bytes = &image[self.bytes_of(role, &numbers)];
+        let offset = self.offset_of(role, numbers.start);
+        self.disk.members[role.index()].write(bytes, offset)
+    }
+
+    fn bytes_of(&self, role: Role, numbers: &Range<usize>) -> Range<usize> {
+        let place_bytes = self.disk.superblock.shape.place_bytes(role);
+        numbers.start * place_bytes..numbers.end * place_bytes
+    }
+
+    fn offset_of(&self, role: Role, number: usize) -> u64 {
+        let sector = self.sector_of(number);
+        self.disk.superblock.shape.offset(role, sector)
+    }
+}
