@@ -90,6 +90,11 @@ fn sectors_of(size: u64, sector_bytes: u64) -> Result<u64, Failure> {
 
 /// Makes the three files, or none.
 fn make_files(paths: &[PathBuf; 3]) -> Result<[Member; 3], Failure> {
+    let same = |a: usize, b: usize| paths[a] == paths[b];
+    if same(0, 1) || same(0, 2) || same(1, 2) {
+        let what_is_wrong = "two of local=, tags= and remote= name one file";
+        return Err(Failure::new(what_is_wrong, "name three files"));
+    }
     if let Some(path) = paths.iter().find(|path| files::is_there(path)) {
         return Err(files::exists(path));
     }
@@ -113,7 +118,7 @@ fn fill(disk: &Disk) -> Result<(), Failure> {
     disk.flush()?;
     for role in Role::ALL {
         let bytes = disk.superblock.encode(role, &disk.key)?;
-        disk.members[role.index()].write(&bytes, 0)?;
+        disk.member(role).write(&bytes, 0)?;
     }
     disk.flush()?;
     disk.members
@@ -122,7 +127,7 @@ fn fill(disk: &Disk) -> Result<(), Failure> {
 }
 
 fn blank_all(disk: &Disk) -> Result<(), Failure> {
-    let shape = &disk.superblock.shape;
+    let shape = disk.shape();
     let mut progress = Progress::new("blanking", shape.sectors, shape.sector_bytes);
     for part in 0..shape.parts() {
         let count = shape.sectors_of(part);

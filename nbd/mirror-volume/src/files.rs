@@ -38,6 +38,23 @@ impl Member {
         Ok(member)
     }
 
+    /// Opens a file that is there.
+    pub fn open(role: Role, path: &Path, access: Access) -> Result<Member, Failure> {
+        // Looked at before, since opening a pipe would wait for its writer.
+        if fs::metadata(path).is_ok_and(|metadata| !metadata.is_file()) {
+            let what_is_wrong = format!("{} is no regular file", path.display());
+            return Err(Failure::new(what_is_wrong, "name a file of a disk"));
+        }
+        let mut options = OpenOptions::new();
+        options.read(true).write(access == Access::Write);
+        let file = options.open(path).map_err(|error| match error.kind() {
+            ErrorKind::NotFound => gone(role, path),
+            _ => Failure::of_file("opening", path, &error, "see its permissions"),
+        })?;
+        let path = path.to_path_buf();
+        Ok(Member { role, path, file })
+    }
+
     /// Takes the lock, which keeps others off the disk until this process ends.
     pub fn lock(&self, access: Access) -> Result<(), Failure> {
         let locked = match access {
@@ -108,6 +125,17 @@ pub fn exists(path: &Path) -> Failure {
     Failure::new(
         format!("{} exists, and nothing was made", path.display()),
         "name a file that is not there, or move this one away",
+    )
+}
+
+fn gone(role: Role, path: &Path) -> Failure {
+    let name = role.name();
+    Failure::new(
+        format!("there is no file {}, given as {name}=", path.display()),
+        format!(
+            "name the disk's; if it is gone, make a new one by `mirror-volume replace ... \
+             place={name}`, and mend"
+        ),
     )
 }
 

@@ -2,16 +2,23 @@
 //! verified mirror keeps in three files. FORMAT.md says what they hold.
 
 mod args;
+mod checks;
 mod create;
 mod disk;
 mod failure;
 mod files;
+mod json;
 mod key;
 mod output;
+mod picture;
 mod progress;
+mod runs;
 mod shape;
 mod size;
+mod status;
 mod superblock;
+mod survey;
+mod svg;
 mod window;
 
 use std::ffi::OsString;
@@ -28,11 +35,18 @@ struct Command {
     run: fn(&Arguments) -> Result<Outcome, Failure>,
 }
 
-const COMMANDS: [Command; 1] = [Command {
-    name: "create",
-    accepted: &create::ACCEPTED,
-    run: create::run,
-}];
+const COMMANDS: [Command; 2] = [
+    Command {
+        name: "create",
+        accepted: &create::ACCEPTED,
+        run: create::run,
+    },
+    Command {
+        name: "status",
+        accepted: &status::ACCEPTED,
+        run: status::run,
+    },
+];
 
 fn main() -> ExitCode {
     let words: Vec<OsString> = std::env::args_os().skip(1).collect();

@@ -24,7 +24,7 @@ pub struct Progress {
 
 impl Progress {
     pub fn new(doing: &'static str, sectors: u64, sector_bytes: usize) -> Progress {
-        Progress {
+        let mut progress = Progress {
             doing,
             all: sectors,
             done: 0,
@@ -32,7 +32,9 @@ impl Progress {
             start: Instant::now(),
             drawn: None,
             shown: io::stderr().is_terminal(),
-        }
+        };
+        progress.add(0);
+        progress
     }
 
     /// So many more sectors are done.

@@ -49,13 +49,16 @@ pub struct Superblock {
     pub shape: Shape,
 }
 
-/// Why bytes are no superblock, in the order in which it is looked for.
+/// Why bytes are no superblock of a file, in the order in which it is looked for.
 #[derive(Debug, PartialEq, Eq)]
 pub enum Fault {
     Magic,
     Crc,
     Version(u32),
+    /// A role that there is not.
     Role(u32),
+    /// It is of another file, of this disk or of another.
+    OtherRole(Role, Uuid),
     Numbers(String),
 }
 
@@ -90,9 +93,8 @@ impl Superblock {
         bytes
     }
 
-    /// What the bytes say, and of which file they are. The key check is not looked
-    /// at.
-    pub fn decode(bytes: &[u8; SUPERBLOCK_BYTES]) -> Result<(Superblock, Role), Fault> {
+    /// Whether the bytes are a superblock of a file of that role.
+    pub fn check_role(bytes: &[u8; SUPERBLOCK_BYTES], role: Role) -> Result<(), Fault> {
         if &bytes[..8] != MAGIC {
             return Err(Fault::Magic);
         }
@@ -104,13 +106,28 @@ impl Superblock {
             other => return Err(Fault::Version(other)),
         }
         let number = u32_at(bytes, 12);
-        let role = Role::ALL.into_iter().find(|role| role.number() == number);
-        let role = role.ok_or(Fault::Role(number))?;
-        let mut uuid = Uuid([0; 16]);
-        uuid.0.copy_from_slice(&bytes[16..32]);
-        let shape = decode_shape(bytes)?;
-        Ok((Superblock { uuid, shape }, role))
+        let found = Role::ALL.into_iter().find(|role| role.number() == number);
+        match found {
+            None => Err(Fault::Role(number)),
+            Some(found) if found != role => Err(Fault::OtherRole(found, uuid_of(bytes))),
+            Some(_) => Ok(()),
+        }
     }
+
+    /// What the bytes say of the disk. The key check is not looked at.
+    pub fn decode(bytes: &[u8; SUPERBLOCK_BYTES], role: Role) -> Result<Superblock, Fault> {
+        Superblock::check_role(bytes, role)?;
+        Ok(Superblock {
+            uuid: uuid_of(bytes),
+            shape: decode_shape(bytes)?,
+        })
+    }
+}
+
+fn uuid_of(bytes: &[u8; SUPERBLOCK_BYTES]) -> Uuid {
+    let mut uuid = Uuid([0; 16]);
+    uuid.0.copy_from_slice(&bytes[16..32]);
+    uuid
 }
 
 fn decode_shape(bytes: &[u8; SUPERBLOCK_BYTES]) -> Result<Shape, Fault> {

@@ -22,7 +22,7 @@ pub struct Window<'d> {
 impl<'d> Window<'d> {
     /// A window to a part, with nothing loaded.
     pub fn new(disk: &'d Disk, part: u64) -> Result<Window<'d>, Failure> {
-        let shape = &disk.superblock.shape;
+        let shape = disk.shape();
         let count = shape.sectors_of(part);
         let [local, tags, remote] = Role::ALL.map(|role| vec![0; count * shape.place_bytes(role)]);
         let mut volume = Volume::new(
@@ -46,7 +46,12 @@ impl<'d> Window<'d> {
 
     /// The disk's number of a sector of the part.
     pub fn sector_of(&self, number: usize) -> u64 {
-        self.disk.superblock.shape.sector_of(self.part, number)
+        self.disk.shape().sector_of(self.part, number)
+    }
+
+    /// Loads all sectors of the part.
+    pub fn load_all(&mut self) {
+        self.load(0..self.volume.count());
     }
 
     /// Loads sectors from the files. A place that cannot be read is a damaged place.
@@ -59,8 +64,8 @@ impl<'d> Window<'d> {
                 Role::Tags => self.volume.tags_mut(),
                 Role::Remote => self.volume.remote_mut(),
             };
-            let place_bytes = self.disk.superblock.shape.place_bytes(role);
-            let member = &self.disk.members[role.index()];
+            let place_bytes = self.disk.shape().place_bytes(role);
+            let member = self.disk.member(role);
             let unreadable = member.load(&mut image[bytes], place_bytes, offset);
             self.unreadable[role.index()] += unreadable;
         }
@@ -76,16 +81,16 @@ impl<'d> Window<'d> {
         };
         let bytes = &image[self.bytes_of(role, &numbers)];
         let offset = self.offset_of(role, numbers.start);
-        self.disk.members[role.index()].write(bytes, offset)
+        self.disk.member(role).write(bytes, offset)
     }
 
     fn bytes_of(&self, role: Role, numbers: &Range<usize>) -> Range<usize> {
-        let place_bytes = self.disk.superblock.shape.place_bytes(role);
+        let place_bytes = self.disk.shape().place_bytes(role);
         numbers.start * place_bytes..numbers.end * place_bytes
     }
 
     fn offset_of(&self, role: Role, number: usize) -> u64 {
         let sector = self.sector_of(number);
-        self.disk.superblock.shape.offset(role, sector)
+        self.disk.shape().offset(role, sector)
     }
 }

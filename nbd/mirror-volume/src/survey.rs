@@ -1,0 +1,135 @@
+//! The survey of a disk: each part's, one after the other.
+
+use mirror::{Refusal, Verdict};
+
+use crate::disk::Disk;
+use crate::failure::Failure;
+use crate::output::Outcome;
+use crate::progress::Progress;
+use crate::runs::{push, Kind, Run};
+use crate::window::Window;
+
+/// What the surveys of all parts have found.
+#[derive(Debug, Default)]
+pub struct Report {
+    pub whole: u64,
+    pub doubtful: u64,
+    pub clashing: u64,
+    pub lost: u64,
+    /// How many places could not be read, by their roles.
+    pub unreadable: [u64; 3],
+    lost_runs: Vec<Run>,
+    clashing_runs: Vec<Run>,
+    doubtful_runs: Vec<Run>,
+}
+
+impl Report {
+    pub fn sectors(&self) -> u64 {
+        self.whole + self.doubtful + self.clashing + self.lost
+    }
+
+    /// The whole ones in thousandths, rounded down: 1,000 only if all are whole.
+    pub fn health(&self) -> u64 {
+        let thousandths = u128::from(self.whole) * 1000 / u128::from(self.sectors().max(1));
+        thousandths as u64
+    }
+
+    /// What is not whole, in the order of repair: the lost, then the clashing, then
+    /// the doubtful; within a kind the numbers rise.
+    pub fn runs(&self) -> impl Iterator<Item = &Run> + Clone {
+        let refused = self.lost_runs.iter().chain(&self.clashing_runs);
+        refused.chain(&self.doubtful_runs)
+    }
+
+    pub fn outcome(&self) -> Outcome {
+        match (self.lost + self.clashing, self.doubtful) {
+            (0, 0) => Outcome::Whole,
+            (0, _) => Outcome::Doubtful,
+            _ => Outcome::Damaged,
+        }
+    }
+
+    /// Adds a part's survey. The window has all of the part.
+    pub fn add(&mut self, window: &mut Window) -> Result<(), Failure> {
+        let mut list = vec![0; window.volume.count()];
+        let (survey, listed) = window.volume.survey(&mut list)?;
+        let kinds = survey.by_kind(listed);
+        self.whole += survey.whole as u64;
+        self.doubtful += survey.doubtful as u64;
+        self.clashing += survey.clashing as u64;
+        self.lost += survey.lost as u64;
+        for &number in kinds.lost {
+            let sector = window.sector_of(number as usize);
+            push(&mut self.lost_runs, sector, Kind::Lost);
+        }
+        for &number in kinds.clashing {
+            let sector = window.sector_of(number as usize);
+            push(&mut self.clashing_runs, sector, Kind::Clashing);
+        }
+        for &number in kinds.doubtful {
+            let sector = window.sector_of(number as usize);
+            let kind = judge(window, number as usize)?;
+            push(
+                &mut self.doubtful_runs,
+                sector,
+                kind.expect("a doubtful sector"),
+            );
+        }
+        for (all, part) in self.unreadable.iter_mut().zip(window.unreadable) {
+            *all += part;
+        }
+        Ok(())
+    }
+}
+
+/// Why a loaded sector is not whole; none if it is.
+pub fn judge(window: &mut Window, number: usize) -> Result<Option<Kind>, Failure> {
+    let mut plaintext = vec![0; window.volume.size()];
+    kind_of(window.volume.read(number, &mut plaintext))
+}
+
+/// The kind that a call's answer says.
+pub fn kind_of(answer: Result<Verdict, Refusal>) -> Result<Option<Kind>, Failure> {
+    match answer {
+        Ok(Verdict::Whole) => Ok(None),
+        Ok(Verdict::Doubtful(place)) => Ok(Some(Kind::Doubtful(place))),
+        Err(Refusal::Lost) => Ok(Some(Kind::Lost)),
+        Err(Refusal::Clashing) => Ok(Some(Kind::Clashing)),
+        Err(refusal) => Err(refusal.into()),
+    }
+}
+
+/// Surveys the whole disk.
+pub fn survey(disk: &Disk) -> Result<Report, Failure> {
+    let shape = disk.shape();
+    let mut progress = Progress::new("surveying", shape.sectors, shape.sector_bytes);
+    let mut report = Report::default();
+    for part in 0..shape.parts() {
+        let mut window = Window::new(disk, part)?;
+        window.load_all();
+        report.add(&mut window)?;
+        progress.add(window.volume.count() as u64);
+    }
+    Ok(report)
+}
+
+#[cfg(test)]
+mod tests {
+    use super::*;
+
+    #[test]
+    fn health_is_rounded_down() {
+        let health = |whole, lost| {
+            let report = Report {
+                whole,
+                lost,
+                ..Report::default()
+            };
+            report.health()
+        };
+        assert_eq!(health(3, 0), 1000);
+        assert_eq!(health(2, 1), 666);
+        assert_eq!(health(u64::MAX - 1, 1), 999);
+        assert_eq!(health(0, 5), 0);
+    }
+}
