@@ -22,7 +22,8 @@ pub const ACCEPTED: Accepted = Accepted {
     flags: &[],
 };
 
-/// The sectors that are blanked before they are written out.
+/// The sectors that are blanked before they are written out. Each batch has a window
+/// of its own: what is written out takes no memory longer.
 const BATCH: usize = 1024;
 
 pub fn run(arguments: &Arguments) -> Result<Outcome, Failure> {
@@ -39,7 +40,7 @@ pub fn run(arguments: &Arguments) -> Result<Outcome, Failure> {
     };
     if let Err(failure) = fill(&disk) {
         paths.iter().for_each(|path| files::remove(path));
-        return Err(Failure::of_create(failure));
+        return Err(Failure::of_making(failure));
     }
     output::print(&made(&disk.superblock))?;
     Ok(Outcome::Whole)
@@ -129,20 +130,15 @@ fn fill(disk: &Disk) -> Result<(), Failure> {
 fn blank_all(disk: &Disk) -> Result<(), Failure> {
     let shape = disk.shape();
     let mut progress = Progress::new("blanking", shape.sectors, shape.sector_bytes);
-    for part in 0..shape.parts() {
-        let count = shape.sectors_of(part);
-        for first in (0..count).step_by(BATCH) {
-            // A window for each batch: what is written out takes no memory longer.
-            let mut window = Window::new(disk, part)?;
-            let numbers = first..count.min(first + BATCH);
-            for number in numbers.clone() {
-                window.volume.blank(number)?;
-            }
-            for role in Role::ALL {
-                window.write_out(role, numbers.clone())?;
-            }
-            progress.add(numbers.len() as u64);
+    for (part, numbers) in shape.batches(0..shape.sectors, BATCH) {
+        let mut window = Window::new(disk, part)?;
+        for number in numbers.clone() {
+            window.volume.blank(number)?;
         }
+        for role in Role::ALL {
+            window.write_out(role, numbers.clone())?;
+        }
+        progress.add(numbers.len() as u64);
     }
     Ok(())
 }

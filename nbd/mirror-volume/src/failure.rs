@@ -34,9 +34,9 @@ impl Failure {
         Failure::of_file(doing, path, error, what_to_do)
     }
 
-    /// A create that failed, and whose files are removed.
-    pub fn of_create(cause: Failure) -> Failure {
-        let what_to_do = "the files are removed: see to the cause, and create again";
+    /// Files that could not be made, and are removed.
+    pub fn of_making(cause: Failure) -> Failure {
+        let what_to_do = "what was made is removed: see to the cause, and try again";
         Failure::new(cause.what_is_wrong, what_to_do)
     }
 }

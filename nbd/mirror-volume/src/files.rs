@@ -173,3 +173,22 @@ pub fn random_bytes() -> Result<[u8; 16], Failure> {
     read.map_err(|error| Failure::of_file("reading", path, &error, what_to_do))?;
     Ok(bytes)
 }
+
+#[cfg(test)]
+mod tests {
+    use super::*;
+
+    #[test]
+    fn what_cannot_be_read_is_lent_as_zeros() {
+        let path = std::env::temp_dir().join(format!("mirror-volume-load-{}", std::process::id()));
+        let member = Member::create(Role::Tags, &path).unwrap();
+        member.write(&[7; 100 + 40], 0).unwrap();
+        remove(&path);
+        let mut places = [9; 64];
+        assert_eq!(member.load(&mut places, 16, 100), 2);
+        assert_eq!(places[..32], [7; 32]);
+        assert_eq!(places[32..], [0; 32]);
+        assert_eq!(member.load(&mut places, 16, 76), 0);
+        assert_eq!(places, [7; 64]);
+    }
+}

@@ -48,12 +48,6 @@ pub struct Run {
     pub kind: Kind,
 }
 
-impl Run {
-    pub fn sectors(&self) -> u64 {
-        self.last - self.first + 1
-    }
-}
-
 impl fmt::Display for Run {
     fn fmt(&self, f: &mut fmt::Formatter<'_>) -> fmt::Result {
         match self.first == self.last {
@@ -106,6 +100,5 @@ mod tests {
                 "sector 3: clashing",
             ]
         );
-        assert_eq!(runs[2].sectors(), 3);
     }
 }

@@ -1,5 +1,8 @@
 //! The shape of a disk: its sectors, its parts, and where their places are.
 
+use std::iter;
+use std::ops::Range;
+
 use crate::size::grouped;
 use mirror::{SECTOR_BYTES_MAX, SECTOR_BYTES_MIN, TAG_BYTES, VOLUME_SECTORS_MAX};
 
@@ -144,6 +147,25 @@ impl Shape {
         part * self.part_sectors + number as u64
     }
 
+    /// Sectors of the disk in batches, each in one part: the part, and numbers there.
+    pub fn batches(
+        &self,
+        sectors: Range<u64>,
+        most: usize,
+    ) -> impl Iterator<Item = (u64, Range<usize>)> + use<'_> {
+        let mut next = sectors.start;
+        iter::from_fn(move || {
+            if next >= sectors.end {
+                return None;
+            }
+            let (part, first) = self.part_of(next);
+            let in_part = self.sectors_of(part) - first;
+            let count = (sectors.end - next).min(in_part.min(most) as u64);
+            next += count;
+            Some((part, first..first + count as usize))
+        })
+    }
+
     /// The bytes of a sector's place in a file.
     pub fn place_bytes(&self, role: Role) -> usize {
         match role {
@@ -187,6 +209,17 @@ mod tests {
         assert_eq!(SHAPE.part_of(16), (1, 0));
         assert_eq!(SHAPE.sector_of(2, 7), 39);
         assert_eq!(SHAPE.number_of(2), 9);
+    }
+
+    #[test]
+    fn batches_end_with_their_part() {
+        let batches = |sectors, most| SHAPE.batches(sectors, most).collect::<Vec<_>>();
+        assert_eq!(
+            batches(3..37, 10),
+            [(0, 3..13), (0, 13..16), (1, 0..10), (1, 10..16), (2, 0..5)]
+        );
+        assert_eq!(batches(0..40, 100), [(0, 0..16), (1, 0..16), (2, 0..8)]);
+        assert_eq!(batches(5..5, 10), []);
     }
 
     #[test]

@@ -11,16 +11,13 @@ use crate::shape::Shape;
 use crate::size::{grouped, readable};
 use crate::superblock::Superblock;
 use crate::survey::{survey, Report};
-use crate::{json, picture, svg};
+use crate::{advice, json, picture, svg};
 
 pub const ACCEPTED: Accepted = Accepted {
     parameters: &["local", "tags", "remote", "key"],
     with_value: &["--svg"],
     flags: &["--json"],
 };
-
-/// The lines of the repair list that are printed.
-const LINES: usize = 40;
 
 pub fn run(arguments: &Arguments) -> Result<Outcome, Failure> {
     let disk = Disk::open(arguments, Access::Read)?;
@@ -44,8 +41,10 @@ pub fn run(arguments: &Arguments) -> Result<Outcome, Failure> {
 fn text(superblock: &Superblock, report: &Report) -> String {
     let mut text = summary(superblock, report);
     if report.runs().next().is_some() {
-        text.push_str(&repair_list(report));
-        text.push_str(&what_to_do(report));
+        text.push_str("\nwhat is not whole, in the order of repair:\n");
+        text.push_str(&advice::list(report.runs()));
+        text.push_str("\nwhat to do:\n");
+        text.push_str(&advice::what_to_do(report));
     }
     text
 }
@@ -87,45 +86,3 @@ fn parts(shape: &Shape) -> String {
         ),
     }
 }
-
-fn repair_list(report: &Report) -> String {
-    let mut text = "\nwhat is not whole, in the order of repair:\n".to_string();
-    for run in report.runs().take(LINES) {
-        writeln!(text, "  {run}").expect("a string takes all");
-    }
-    let more = report.runs().count().saturating_sub(LINES);
-    if more > 0 {
-        writeln!(text, "  and {} more", grouped(more as u64)).expect("a string takes all");
-    }
-    text
-}
-
-fn what_to_do(report: &Report) -> String {
-    let mut text = "\nwhat to do:\n".to_string();
-    if report.whole == 0 && report.outcome() == Outcome::Damaged {
-        text.push_str(
-            "  No sector is whole. The files may not be the disk's, or its number may be wrong:\n  \
-             overwrite nothing, and look for the right files first.\n",
-        );
-    }
-    if report.lost > 0 {
-        text.push_str(
-            "  lost: no plaintext fits two places. Write these sectors from a backup, by\n  \
-             `mirror-volume write ... sector=X overwrite-lost=true`.\n",
-        );
-    }
-    if report.clashing > 0 {
-        text.push_str(CLASHING);
-    }
-    if report.doubtful > 0 {
-        text.push_str(
-            "  doubtful: the data is there, and one place is damaged or a write was cut. Mend soon,\n  \
-             before a second place is damaged: `mirror-volume mend ...`.\n",
-        );
-    }
-    text
-}
-
-const CLASHING: &str = "  clashing: more than one plaintext fits two places. Overwrite nothing, \
-                        keep a copy of\n  the three files, and choose by docs/OPERATORS.md, \
-                        under Clashing.\n";

@@ -117,10 +117,15 @@ impl Superblock {
     /// What the bytes say of the disk. The key check is not looked at.
     pub fn decode(bytes: &[u8; SUPERBLOCK_BYTES], role: Role) -> Result<Superblock, Fault> {
         Superblock::check_role(bytes, role)?;
-        Ok(Superblock {
+        let superblock = Superblock {
             uuid: uuid_of(bytes),
             shape: decode_shape(bytes)?,
-        })
+        };
+        if superblock.encode_without_check(role)[..CHECK_AT] != bytes[..CHECK_AT] {
+            let fault = "something in bytes that the format leaves zero";
+            return Err(Fault::Numbers(fault.to_string()));
+        }
+        Ok(superblock)
     }
 }
 
@@ -201,4 +206,117 @@ fn crc32(bytes: &[u8]) -> u32 {
     !bytes.iter().fold(!0, |crc, byte| {
         (0..8).fold(crc ^ u32::from(*byte), |crc, _| step(crc))
     })
+}
+
+#[cfg(test)]
+mod tests {
+    use super::*;
+
+    const KEY: [u8; KEY_BYTES] = [7; KEY_BYTES];
+
+    const SUPERBLOCK: Superblock = Superblock {
+        uuid: Uuid([
+            0x10, 0x11, 0x12, 0x13, 0x14, 0x15, 0x16, 0x17, 0x18, 0x19, 0x1a, 0x1b, 0x1c, 0x1d,
+            0x1e, 0x1f,
+        ]),
+        shape: Shape {
+            sector_bytes: 512,
+            part_sectors: 16,
+            sectors: 40,
+            first_number: 0x0102_0304_0506_0708,
+        },
+    };
+
+    /// Of the remote file, written by hand from the table; the CRC is zlib's.
+    const FRONT: [u8; 64] = [
+        0x44, 0x43, 0x4d, 0x49, 0x52, 0x52, 0x4f, 0x52, // DCMIRROR
+        0x01, 0x00, 0x00, 0x00, 0x02, 0x00, 0x00, 0x00, // version, role
+        0x10, 0x11, 0x12, 0x13, 0x14, 0x15, 0x16, 0x17, // UUID
+        0x18, 0x19, 0x1a, 0x1b, 0x1c, 0x1d, 0x1e, 0x1f, //
+        0x00, 0x02, 0x00, 0x00, 0x10, 0x00, 0x00, 0x00, // s, part sectors
+        0x28, 0x00, 0x00, 0x00, 0x00, 0x00, 0x00, 0x00, // sectors
+        0x03, 0x00, 0x00, 0x00, 0x00, 0x00, 0x00, 0x00, // parts
+        0x08, 0x07, 0x06, 0x05, 0x04, 0x03, 0x02, 0x01, // first number
+    ];
+    const CRC: [u8; 4] = [0x5b, 0x4a, 0x3b, 0xad];
+
+    #[test]
+    fn the_crc_is_that_of_gzip() {
+        assert_eq!(crc32(b"123456789"), 0xcbf4_3926);
+        assert_eq!(crc32(b""), 0);
+    }
+
+    #[test]
+    fn the_bytes_are_those_of_the_format() {
+        let bytes = SUPERBLOCK.encode(Role::Remote, &KEY).unwrap();
+        assert_eq!(bytes[..64], FRONT);
+        assert!(bytes[64..4076].iter().all(|&byte| byte == 0));
+        assert_eq!(bytes[4076..4080], CRC);
+        let mut tag = [0; 16];
+        let (mut local, mut remote) = ([0; 4080], [0; 4080]);
+        let (number, address) = (0x0102_0304_0506_0708, 0xffff_ffff_ffff_fffd);
+        let plaintext = &bytes[..4080];
+        seal(
+            &KEY,
+            number,
+            address,
+            plaintext,
+            &mut local,
+            &mut tag,
+            &mut remote,
+        )
+        .unwrap();
+        assert_eq!(bytes[4080..], tag);
+    }
+
+    #[test]
+    fn what_was_encoded_is_decoded() {
+        for role in Role::ALL {
+            let bytes = SUPERBLOCK.encode(role, &KEY).unwrap();
+            assert_eq!(Superblock::decode(&bytes, role), Ok(SUPERBLOCK));
+            let number = SUPERBLOCK.shape.first_number;
+            assert_eq!(key_fits(&bytes, role, number, &KEY), Ok(true));
+            assert_eq!(key_fits(&bytes, role, number, &[8; KEY_BYTES]), Ok(false));
+        }
+    }
+
+    /// The fault of the remote superblock with a byte changed, its CRC made anew.
+    fn fault_with(at: usize, byte: u8) -> Fault {
+        let mut bytes = SUPERBLOCK.encode(Role::Remote, &KEY).unwrap();
+        bytes[at] = byte;
+        let crc = crc32(&bytes[..CRC_AT]);
+        bytes[CRC_AT..CHECK_AT].copy_from_slice(&crc.to_le_bytes());
+        Superblock::decode(&bytes, Role::Remote).unwrap_err()
+    }
+
+    #[test]
+    fn faults_are_named() {
+        assert_eq!(fault_with(0, b'd'), Fault::Magic);
+        assert_eq!(fault_with(8, 2), Fault::Version(2));
+        assert_eq!(fault_with(12, 3), Fault::Role(3));
+        let other = Fault::OtherRole(Role::Tags, SUPERBLOCK.uuid);
+        assert_eq!(fault_with(12, 1), other);
+        for (at, byte) in [
+            (32, 1),
+            (36, 0),
+            (40, 0),
+            (48, 4),
+            (52, 1),
+            (64, 1),
+            (4075, 1),
+        ] {
+            assert!(matches!(fault_with(at, byte), Fault::Numbers(_)), "{at}");
+        }
+        let mut bytes = SUPERBLOCK.encode(Role::Remote, &KEY).unwrap();
+        bytes[20] ^= 1;
+        assert_eq!(Superblock::decode(&bytes, Role::Remote), Err(Fault::Crc));
+    }
+
+    #[test]
+    fn uuids_are_of_version_4() {
+        let uuid = Uuid::from_random([0xff; 16]).to_string();
+        assert_eq!(uuid, "ffffffff-ffff-4fff-bfff-ffffffffffff");
+        let uuid = Uuid::from_random([0; 16]).to_string();
+        assert_eq!(uuid, "00000000-0000-4000-8000-000000000000");
+    }
 }

@@ -49,35 +49,46 @@ impl Report {
         }
     }
 
+    /// Counts a sector, and lists it if it is not whole. Within a kind the numbers
+    /// rise.
+    pub fn add(&mut self, sector: u64, kind: Option<Kind>) {
+        let (count, runs) = match kind {
+            None => {
+                self.whole += 1;
+                return;
+            }
+            Some(Kind::Lost) => (&mut self.lost, &mut self.lost_runs),
+            Some(Kind::Clashing) => (&mut self.clashing, &mut self.clashing_runs),
+            Some(Kind::Doubtful(_)) => (&mut self.doubtful, &mut self.doubtful_runs),
+        };
+        *count += 1;
+        push(runs, sector, kind.expect("it is not whole"));
+    }
+
+    pub fn add_unreadable(&mut self, unreadable: [u64; 3]) {
+        for (all, more) in self.unreadable.iter_mut().zip(unreadable) {
+            *all += more;
+        }
+    }
+
     /// Adds a part's survey. The window has all of the part.
-    pub fn add(&mut self, window: &mut Window) -> Result<(), Failure> {
+    fn add_survey(&mut self, window: &mut Window) -> Result<(), Failure> {
         let mut list = vec![0; window.volume.count()];
         let (survey, listed) = window.volume.survey(&mut list)?;
         let kinds = survey.by_kind(listed);
         self.whole += survey.whole as u64;
-        self.doubtful += survey.doubtful as u64;
-        self.clashing += survey.clashing as u64;
-        self.lost += survey.lost as u64;
         for &number in kinds.lost {
-            let sector = window.sector_of(number as usize);
-            push(&mut self.lost_runs, sector, Kind::Lost);
+            self.add(window.sector_of(number as usize), Some(Kind::Lost));
         }
         for &number in kinds.clashing {
-            let sector = window.sector_of(number as usize);
-            push(&mut self.clashing_runs, sector, Kind::Clashing);
+            self.add(window.sector_of(number as usize), Some(Kind::Clashing));
         }
         for &number in kinds.doubtful {
-            let sector = window.sector_of(number as usize);
+            // The list does not say which place is in doubt: a read does.
             let kind = judge(window, number as usize)?;
-            push(
-                &mut self.doubtful_runs,
-                sector,
-                kind.expect("a doubtful sector"),
-            );
+            self.add(window.sector_of(number as usize), kind);
         }
-        for (all, part) in self.unreadable.iter_mut().zip(window.unreadable) {
-            *all += part;
-        }
+        self.add_unreadable(window.unreadable);
         Ok(())
     }
 }
@@ -107,7 +118,7 @@ pub fn survey(disk: &Disk) -> Result<Report, Failure> {
     for part in 0..shape.parts() {
         let mut window = Window::new(disk, part)?;
         window.load_all();
-        report.add(&mut window)?;
+        report.add_survey(&mut window)?;
         progress.add(window.volume.count() as u64);
     }
     Ok(report)

@@ -178,12 +178,14 @@ fn other_cells(svg: &mut String, grid: &Grid, report: &Report) {
         let names = ["lost", "clashing", "doubtful"];
         let each = counts.iter().zip(names).filter(|(count, _)| **count > 0);
         let each = each.map(|(count, name)| format!("{} {name}", grouped(*count)));
-        let (first, last) = grid.sectors_of(cell);
+        let sectors = match grid.sectors_of(cell) {
+            (first, last) if first == last => format!("sector {first}"),
+            (first, last) => format!("sectors {first} to {last}"),
+        };
         put(
             svg,
             format_args!(
-                "<use href=\"#{}\" x=\"{}\" y=\"{}\"><title>sectors {first} to {last}: {}</title>\
-                 </use>",
+                "<use href=\"#{}\" x=\"{}\" y=\"{}\"><title>{sectors}: {}</title></use>",
                 names[worst],
                 cell % COLUMNS * STEP,
                 cell / COLUMNS * STEP,

@@ -8,6 +8,16 @@ use crate::disk::Disk;
 use crate::failure::Failure;
 use crate::shape::Role;
 
+/// The files that were written since the last flush.
+#[derive(Clone, Copy, Debug, Default)]
+pub struct Touched([bool; 3]);
+
+impl Touched {
+    pub fn add(&mut self, role: Role) {
+        self.0[role.index()] = true;
+    }
+}
+
 /// The images of one part, a volume of the library. They are as long as the part;
 /// what was never touched is zeros that take no memory. So a window in which few
 /// sectors are loaded is small.
@@ -82,6 +92,15 @@ impl<'d> Window<'d> {
         let bytes = &image[self.bytes_of(role, &numbers)];
         let offset = self.offset_of(role, numbers.start);
         self.disk.member(role).write(bytes, offset)
+    }
+
+    /// Waits until what was written to these files is on the medium.
+    pub fn flush(&self, touched: Touched) -> Result<(), Failure> {
+        let mut roles = Role::ALL.into_iter();
+        roles.try_for_each(|role| match touched.0[role.index()] {
+            true => self.disk.member(role).flush(),
+            false => Ok(()),
+        })
     }
 
     fn bytes_of(&self, role: Role, numbers: &Range<usize>) -> Range<usize> {
