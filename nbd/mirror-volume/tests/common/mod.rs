@@ -1,5 +1,8 @@
 //! A folder with a disk's files, and the tool run on them.
 
+// Not each of the tests uses all of it.
+#![allow(dead_code)]
+
 use std::fmt;
 use std::fs::{self, OpenOptions};
 use std::io::Write;
