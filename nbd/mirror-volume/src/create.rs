@@ -10,7 +10,7 @@ use crate::key;
 use crate::output::{self, Outcome};
 use crate::progress::Progress;
 use crate::shape::{is_sector_size, Role, Shape};
-use crate::size::{grouped, readable};
+use crate::size::{grouped, readable, sectors};
 use crate::superblock::{Superblock, Uuid};
 use crate::window::Window;
 
@@ -145,15 +145,13 @@ fn blank_all(disk: &Disk) -> Result<(), Failure> {
 
 fn made(superblock: &Superblock) -> String {
     let shape = &superblock.shape;
-    let last = shape.number_of(shape.parts() - 1);
     format!(
-        "made the disk {}: {} sectors of {} bytes, {}\n\
-         its parts have the numbers {} to {last}: no other disk under this key may have one of \
-         them\n",
+        "made the disk {}: {} of {} bytes, {}\n\
+         {}: no other disk under this key may have such a number\n",
         superblock.uuid,
-        grouped(shape.sectors),
+        sectors(shape.sectors),
         grouped(shape.sector_bytes as u64),
         readable(shape.bytes()),
-        shape.first_number,
+        shape.parts_in_words(),
     )
 }

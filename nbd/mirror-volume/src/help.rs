@@ -70,7 +70,8 @@ mirror-volume status V [--svg FILE] [--json]
 
 Surveys every sector and prints the counts, what is not whole in the order of
 repair, and what to do. Nothing is changed in the disk. Exit status 0, 1 or 2
-by the worst that it finds, see mirror-volume --help.
+by the worst that it finds, see mirror-volume --help. It loads a part at a time:
+with sector=4096 and part=65536 that takes 514 MiB of memory.
 
   whole      one plaintext fits all three places
   doubtful   one plaintext fits two places; the third, which is named, is damaged
@@ -84,7 +85,8 @@ by the worst that it finds, see mirror-volume --help.
              clashing, lost, health; unreadable, the places that a device would
              not give, by local, tags and remote; runs, a list of {first, last,
              verdict, place} in the order of repair, where the verdict is lost,
-             clashing or doubtful, and the place local, tag, remote or null
+             clashing or doubtful, and the place local, tag, remote or null; all
+             numbers are whole ones below 2^64
 ";
 
 const MEND: &str = "\

@@ -11,7 +11,7 @@ use crate::output::{self, Outcome};
 use crate::progress::Progress;
 use crate::runs::Kind;
 use crate::shape::Role;
-use crate::size::grouped;
+use crate::size::{grouped, sectors};
 use crate::survey::{kind_of, Report};
 use crate::window::{Touched, Window};
 
@@ -74,15 +74,15 @@ fn text(mended: [u64; 3], left: &Report) -> String {
     let mut text = match all {
         0 => "nothing was to be mended\n".to_string(),
         _ => format!(
-            "mended {} sectors: {local} at the local sector, {tags} at the tag, {remote} at the \
+            "mended {}: {local} at the local sector, {tags} at the tag, {remote} at the \
              remote sector\n",
-            grouped(all)
+            sectors(all)
         ),
     };
     match left.outcome() {
         Outcome::Whole => {
             let sectors = grouped(left.sectors());
-            text.push_str(&format!("all {sectors} sectors are whole\n"));
+            text.push_str(&format!("whole are all of the disk's sectors: {sectors}\n"));
         }
         _ => {
             text.push_str("what is not whole, and cannot be mended:\n");

@@ -6,7 +6,7 @@ use std::time::{Duration, Instant};
 use crate::size::{grouped, readable};
 
 /// The characters of the bar.
-const WIDTH: u64 = 24;
+const WIDTH: u64 = 16;
 
 /// The time between two drawings.
 const PAUSE: Duration = Duration::from_millis(100);
@@ -56,8 +56,10 @@ impl Progress {
             self.start.elapsed(),
         );
         let mut terminal = io::stderr().lock();
-        // A terminal that is gone is no reason to stop.
-        let _ = write!(terminal, "\r{line}\x1b[K").and_then(|()| terminal.flush());
+        // Without wrapping, so that a narrow terminal keeps it in one line. One that is
+        // gone is no reason to stop.
+        let _ = write!(terminal, "\r\x1b[?7l{line}\x1b[K\x1b[?7h");
+        let _ = terminal.flush();
     }
 }
 
@@ -109,7 +111,7 @@ mod tests {
         let text = line("surveying", 500, 2000, 4096, Duration::from_secs(1));
         assert_eq!(
             text,
-            "surveying [######..................] 25% 500 of 2,000 sectors, 1.9 MiB/s, 0:03 left"
+            "surveying [####............] 25% 500 of 2,000 sectors, 1.9 MiB/s, 0:03 left"
         );
         assert!(line("surveying", 0, 0, 16, Duration::ZERO).contains(" 0% "));
     }

@@ -3,7 +3,7 @@
 use std::iter;
 use std::ops::Range;
 
-use crate::size::grouped;
+use crate::size::{grouped, sectors};
 use mirror::{SECTOR_BYTES_MAX, SECTOR_BYTES_MIN, TAG_BYTES, VOLUME_SECTORS_MAX};
 
 /// The bytes of a superblock, which each file begins with.
@@ -118,6 +118,20 @@ impl Shape {
     /// How many parts there are.
     pub fn parts(&self) -> u64 {
         self.sectors.div_ceil(self.part_sectors)
+    }
+
+    /// The parts and their numbers, in words.
+    pub fn parts_in_words(&self) -> String {
+        let (parts, first) = (self.parts(), self.first_number);
+        match parts {
+            1 => format!("1 part, with the number {first}"),
+            _ => format!(
+                "{} parts of {}, with the numbers {first} to {}",
+                grouped(parts),
+                sectors(self.part_sectors),
+                self.number_of(parts - 1)
+            ),
+        }
     }
 
     /// The bytes of the disk.

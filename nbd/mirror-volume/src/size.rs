@@ -32,6 +32,14 @@ pub fn grouped(number: u64) -> String {
     text
 }
 
+/// So many sectors, in words.
+pub fn sectors(count: u64) -> String {
+    match count {
+        1 => "1 sector".to_string(),
+        _ => format!("{} sectors", grouped(count)),
+    }
+}
+
 /// Bytes in the largest unit of which there is one at least, with one digit
 /// behind the point, rounded down.
 pub fn readable(bytes: u64) -> String {
@@ -80,6 +88,12 @@ mod tests {
         assert_eq!(grouped(999), "999");
         assert_eq!(grouped(1000), "1,000");
         assert_eq!(grouped(1_234_567), "1,234,567");
+    }
+
+    #[test]
+    fn sectors_are_counted() {
+        assert_eq!(sectors(1), "1 sector");
+        assert_eq!(sectors(1000), "1,000 sectors");
     }
 
     #[test]

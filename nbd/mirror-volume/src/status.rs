@@ -7,7 +7,6 @@ use crate::disk::Disk;
 use crate::failure::Failure;
 use crate::files::Access;
 use crate::output::{self, Outcome};
-use crate::shape::Shape;
 use crate::size::{grouped, readable};
 use crate::superblock::Superblock;
 use crate::survey::{survey, Report};
@@ -65,24 +64,11 @@ fn summary(superblock: &Superblock, report: &Report) -> String {
         "sectors",
         format!("{} of {sector_bytes} bytes", grouped(shape.sectors)),
     );
-    line("parts", parts(shape));
+    line("parts", shape.parts_in_words());
     line("whole", grouped(report.whole));
     line("doubtful", grouped(report.doubtful));
     line("clashing", grouped(report.clashing));
     line("lost", grouped(report.lost));
     line("health", format!("{} of 1,000", grouped(report.health())));
     text
-}
-
-fn parts(shape: &Shape) -> String {
-    let last = shape.number_of(shape.parts() - 1);
-    match shape.parts() {
-        1 => format!("1, with the number {last}"),
-        parts => format!(
-            "{} of {} sectors, with the numbers {} to {last}",
-            grouped(parts),
-            grouped(shape.part_sectors),
-            shape.first_number
-        ),
-    }
 }

@@ -12,7 +12,7 @@ use crate::output::{self, Outcome};
 use crate::progress::Progress;
 use crate::runs::Kind;
 use crate::shape::{Role, Shape};
-use crate::size::grouped;
+use crate::size;
 use crate::survey::{judge, Report};
 use crate::window::{Touched, Window};
 
@@ -31,8 +31,8 @@ pub fn run(arguments: &Arguments) -> Result<Outcome, Failure> {
     let overwrite_lost = arguments.truth("overwrite-lost")?;
     let disk = Disk::open(arguments, Access::Write)?;
     let input = read_input(disk.shape(), first)?;
-    let size = disk.shape().sector_bytes;
-    let sectors = first..first + (input.len() / size) as u64;
+    let count = input.len() / disk.shape().sector_bytes;
+    let sectors = first..first + count as u64;
     let found = judge_all(&disk, sectors.clone())?;
     disk.note_unreadable(found.unreadable);
     if found.clashing > 0 || found.lost > 0 && !overwrite_lost {
@@ -40,8 +40,8 @@ pub fn run(arguments: &Arguments) -> Result<Outcome, Failure> {
         return Ok(Outcome::Damaged);
     }
     write_all(&disk, sectors.clone(), &input, overwrite_lost)?;
-    let count = grouped(sectors.end - sectors.start);
-    output::print(&format!("wrote {count} sectors from sector {first} on\n"))?;
+    let count = size::sectors(sectors.end - sectors.start);
+    output::print(&format!("wrote {count} from sector {first} on\n"))?;
     Ok(Outcome::Whole)
 }
 

@@ -24,11 +24,13 @@ fn create_makes_the_files_of_the_format() {
     assert_eq!(local[4096 + 17 * 512..][..512], side);
     assert_eq!(tags[4096 + 17 * 16..][..16], tag);
     assert_eq!(folder.bytes("remote")[4096 + 17 * 512..][..512], other);
-    folder.status().ends_with(
+    let run = folder.status();
+    assert_eq!(run.errors, "", "a bar is for a terminal");
+    run.ends_with(
         0,
         &[
             "20,480 bytes, 20 KiB",
-            "3 of 16 sectors, with the numbers 5 to 7",
+            "3 parts of 16 sectors, with the numbers 5 to 7",
             "whole     40\n",
             "health    1,000 of 1,000",
         ],
@@ -164,7 +166,10 @@ fn damage_is_found_and_mended_in_each_place() {
         assert_ne!(folder.bytes(name), before, "the status mends nothing");
         let text = format!("4 at {place}");
         let run = folder.run("mend", &[]);
-        run.ends_with(0, &["mended 4 sectors", &text, "all 40 sectors are whole"]);
+        run.ends_with(
+            0,
+            &["mended 4 sectors", &text, "all of the disk's sectors: 40\n"],
+        );
         assert_eq!(folder.bytes(name), before);
         assert_eq!(folder.status().status, 0);
         folder
@@ -196,7 +201,7 @@ fn two_damaged_places_lose_a_sector() {
     assert!(lost.unwrap() < doubtful.unwrap(), "the lost come first");
     folder
         .run("mend", &[])
-        .ends_with(2, &["mended 1 sectors", "sector 20: lost"]);
+        .ends_with(2, &["mended 1 sector:", "sector 20: lost"]);
     folder
         .status()
         .ends_with(2, &["lost      1\n", "doubtful  0\n"]);
@@ -272,7 +277,8 @@ fn reading_stops_before_a_lost_sector() {
     folder.damage_place("local", 17);
     folder.damage_place("tags", 17);
     folder.damage_place("local", 19);
-    let run = folder.run("read", &["sector=14", "count=6"]);
+    // The last sectors are of the next part.
+    let run = folder.run("read", &["sector=14", "count=20"]);
     assert_eq!((run.status, &run.bytes[..]), (2, &data[..3 * 512]));
     assert!(run.errors.contains("sector 17: lost"), "{run:?}");
     assert!(!run.errors.contains("sector 19"), "{run:?}");
@@ -433,7 +439,7 @@ fn a_write_that_fails_is_told_as_a_power_cut() {
     let run = limited(&folder, "write", "sector=100");
     run.fails_with(&["File too large", "as after a power cut", "status"]);
     let run = limited(&folder, "write", "sector=3");
-    run.ends_with(0, &["wrote 1 sectors"]);
+    run.ends_with(0, &["wrote 1 sector from"]);
     folder.damage_place("remote", 100);
     limited(&folder, "mend", "").fails_with(&["as after a power cut"]);
 }
