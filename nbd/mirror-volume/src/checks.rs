@@ -1,7 +1,7 @@
 //! What is looked at when files of a disk are opened, in the order of FORMAT.md.
 //! Nothing is written here.
 
-use std::io;
+use std::io::{self, ErrorKind};
 use std::os::unix::fs::{FileExt, MetadataExt};
 use std::path::Path;
 
@@ -47,7 +47,8 @@ pub fn superblock_of(
     key: &Key,
     key_path: &Path,
 ) -> Result<Superblock, Failure> {
-    let blocks: Vec<Bytes> = members.iter().map(read_superblock).collect();
+    let blocks = members.iter().map(read_superblock);
+    let blocks = blocks.collect::<Result<Vec<Bytes>, Failure>>()?;
     let superblocks = identified(members, &blocks)?;
     let superblock = agreed(members, &superblocks)?;
     for member in members {
@@ -57,12 +58,18 @@ pub fn superblock_of(
     Ok(superblock)
 }
 
-/// The bytes of a superblock; zeros if they cannot be read, which are none.
-fn read_superblock(member: &Member) -> Bytes {
+/// The bytes of a superblock; zeros, which are none, if the file is too short. A
+/// device that does not give them may do so another time.
+fn read_superblock(member: &Member) -> Result<Bytes, Failure> {
     let mut bytes = [0; SUPERBLOCK_BYTES];
     match member.file.read_exact_at(&mut bytes, 0) {
-        Ok(()) => bytes,
-        Err(_) => [0; SUPERBLOCK_BYTES],
+        Ok(()) => Ok(bytes),
+        Err(error) if error.kind() == ErrorKind::UnexpectedEof => Ok([0; SUPERBLOCK_BYTES]),
+        Err(error) => {
+            let what_to_do = format!("look at its device; if it stays so, {}", replace_it(member));
+            let doing = "reading the superblock of";
+            Err(Failure::of_file(doing, &member.path, &error, &what_to_do))
+        }
     }
 }
 
@@ -116,7 +123,10 @@ fn about_damage(member: &Member, faults: &[Option<Fault>]) -> String {
         .iter()
         .filter(|fault| matches!(fault, Some(Fault::Magic | Fault::Crc)));
     if damaged.count() == 1 {
-        return replace_it(member);
+        return format!(
+            "see that it is the disk's; if it is, {}",
+            replace_it(member)
+        );
     }
     let none_has_one = faults.iter().all(|fault| *fault == Some(Fault::Magic));
     let what_to_do = match none_has_one {
@@ -134,8 +144,7 @@ fn about_damage(member: &Member, faults: &[Option<Fault>]) -> String {
 
 fn replace_it(member: &Member) -> String {
     format!(
-        "see that it is the disk's; if it is, move it away, make a new one by \
-         `mirror-volume replace ... place={}`, and mend",
+        "move it away, make a new one by `mirror-volume replace ... place={}`, and mend",
         member.role.name()
     )
 }

@@ -55,9 +55,10 @@ impl Disk {
         for (member, count) in self.members.iter().zip(unreadable) {
             if count > 0 {
                 note(&format!(
-                    "{} places of {} could not be read, and count as damaged: look at its device",
-                    grouped(count),
-                    member.path.display()
+                    "places of {} that could not be read, and count as damaged: {}: look at its \
+                     device",
+                    member.path.display(),
+                    grouped(count)
                 ));
             }
         }

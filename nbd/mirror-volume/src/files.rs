@@ -8,7 +8,7 @@ use std::path::{Path, PathBuf};
 use crate::failure::Failure;
 use crate::shape::Role;
 
-/// What a read or a write takes at once.
+/// What a read takes at once.
 const CHUNK_BYTES: usize = 1 << 20;
 
 /// A file of the disk, open.
@@ -157,7 +157,7 @@ pub fn flush_folder(path: &Path) -> Result<(), Failure> {
     flushed.map_err(|error| Failure::of_writing("flushing the folder", folder, &error))
 }
 
-pub fn folder_of(path: &Path) -> &Path {
+fn folder_of(path: &Path) -> &Path {
     match path.parent() {
         Some(folder) if !folder.as_os_str().is_empty() => folder,
         _ => Path::new("."),

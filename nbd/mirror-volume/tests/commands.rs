@@ -444,6 +444,73 @@ fn a_write_that_fails_is_told_as_a_power_cut() {
     limited(&folder, "mend", "").fails_with(&["as after a power cut"]);
 }
 
+/// The place of sector 5 in the local file is a bad one. It shares a read with all
+/// of its part.
+const BAD_PLACE: (&str, &str) = ("FAIL_READ", "local 6756");
+
+#[test]
+fn a_place_that_cannot_be_read_is_a_damaged_one() {
+    let folder = Folder::with_disk();
+    let data = noise(40 * 512);
+    folder.run_with_input("write", &["sector=0"], &data);
+    let run = folder.run_on_medium(&["status"], b"", &[BAD_PLACE]);
+    run.ends_with(
+        1,
+        &[
+            "doubtful  1\n",
+            "  sector 5: doubtful at the local sector\n",
+        ],
+    );
+    assert!(
+        run.errors.contains("1 places of local could not be read"),
+        "{run:?}"
+    );
+    let run = folder.run_on_medium(&["status", "--json"], b"", &[BAD_PLACE]);
+    run.ends_with(
+        1,
+        &["\"unreadable\": {\"local\": 1, \"tags\": 0, \"remote\": 0}"],
+    );
+    let run = folder.run_on_medium(&["read", "sector=0", "count=40"], b"", &[BAD_PLACE]);
+    assert_eq!((run.status, &run.bytes), (1, &data));
+    let run = folder.run_on_medium(&["mend"], b"", &[BAD_PLACE]);
+    run.ends_with(0, &["mended 1 sector: 1 at the local sector"]);
+    folder.damage_place("tags", 5);
+    let run = folder.run_on_medium(&["read", "sector=4", "count=3"], b"", &[BAD_PLACE]);
+    assert_eq!((run.status, &run.bytes[..]), (2, &data[4 * 512..][..512]));
+}
+
+#[test]
+fn a_superblock_that_cannot_be_read_is_told() {
+    let folder = Folder::with_disk();
+    let run = folder.run_on_medium(&["status"], b"", &[("FAIL_READ", "tags 0")]);
+    run.fails_with(&[
+        "reading the superblock of tags failed",
+        "look at its device",
+    ]);
+}
+
+#[test]
+fn a_flush_that_fails_ends_the_command() {
+    let folder = Folder::with_disk();
+    let flush = |words: &[&str], which| {
+        let run = folder.run_on_medium(words, &[9; 512], &[("FAIL_FLUSH", which)]);
+        run.fails_with(&["flushing", "as after a power cut"]);
+    };
+    flush(&["status"], "remote 1");
+    flush(&["write", "sector=3"], "local 2");
+    // The first stage is there, and no other.
+    assert_eq!(folder.run("read", &["sector=3"]).bytes, [0; 512]);
+    folder
+        .status()
+        .ends_with(1, &["sector 3: doubtful at the local sector"]);
+    flush(&["mend"], "local 2");
+    flush(&["write", "sector=3"], "tags 2");
+    folder
+        .status()
+        .ends_with(1, &["sector 3: doubtful at the remote sector"]);
+    assert_eq!(folder.run("read", &["sector=3"]).bytes, [9; 512]);
+}
+
 #[test]
 fn swapped_files_are_told() {
     let folder = Folder::with_disk();

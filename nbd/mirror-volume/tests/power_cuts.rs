@@ -6,10 +6,8 @@
 mod common;
 
 use std::fs;
-use std::path::PathBuf;
-use std::process::Command;
 
-use common::{noise, run, Folder, Run, TOOL};
+use common::{noise, Folder, Run};
 use mirror::{judge, Verdict};
 
 const NAMES: [&str; 3] = ["local", "tags", "remote"];
@@ -34,25 +32,14 @@ fn files(folder: &Folder) -> Files {
 
 /// Runs a command on the disk, and gives what it wrote and flushed, in order.
 fn recorded(folder: &Folder, words: &[&str], input: &[u8]) -> (Run, Vec<Event>) {
-    let source = concat!(env!("CARGO_MANIFEST_DIR"), "/tests/record.c");
-    let library = folder.path("record.so");
-    let mut compiler = Command::new("cc");
-    compiler.args(["-shared", "-fPIC", "-o"]).arg(&library);
-    let compiled = run(compiler.args([source, "-ldl"]), b"");
-    assert_eq!(compiled.status, 0, "{compiled:?}");
-    let log = folder.path("log");
-    let mut tool = Command::new(TOOL);
-    tool.args(words)
-        .args(NAMES.map(|name| format!("{name}={name}")));
-    tool.arg("key=key").current_dir(&folder.0);
-    tool.env("LD_PRELOAD", library).env("RECORD", &log);
-    let run = run(&mut tool, input);
-    (run, events(&log))
+    let _ = fs::remove_file(folder.path("log"));
+    let run = folder.run_on_medium(words, input, &[("RECORD", "log")]);
+    let events = events(&folder.bytes("log"));
+    (run, events)
 }
 
-fn events(log: &PathBuf) -> Vec<Event> {
-    let log = fs::read(log).unwrap();
-    let (mut rest, mut events) = (&log[..], Vec::new());
+fn events(log: &[u8]) -> Vec<Event> {
+    let (mut rest, mut events) = (log, Vec::new());
     while let Some(end) = rest.iter().position(|&byte| byte == b'\n') {
         let line = String::from_utf8(rest[..end].to_vec()).unwrap();
         rest = &rest[end + 1..];
@@ -273,11 +260,9 @@ fn files_are_flushed_before_anything_else() {
         first.collect::<Vec<_>>() == [0, 1, 2]
     };
     for words in [&["status"][..], &["read", "sector=11"]] {
-        fs::remove_file(folder.path("log")).unwrap_or_default();
         let (_, events) = recorded(&folder, words, b"");
         assert!(flushed(&events) && events.len() == 3, "{events:?}");
     }
-    fs::remove_file(folder.path("log")).unwrap();
     let (_, events) = recorded(&folder, &["mend"], b"");
     assert!(flushed(&events));
 }

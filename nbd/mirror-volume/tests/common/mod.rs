@@ -95,6 +95,22 @@ impl Folder {
         self.run_words(&words, input)
     }
 
+    /// Runs a command on the disk's files on a medium that is watched and can fail, as
+    /// medium.c says.
+    pub fn run_on_medium(&self, words: &[&str], input: &[u8], wishes: &[(&str, &str)]) -> Run {
+        let source = concat!(env!("CARGO_MANIFEST_DIR"), "/tests/medium.c");
+        let library = self.path("medium.so");
+        let mut compiler = Command::new("cc");
+        compiler.args(["-shared", "-fPIC", "-o"]).arg(&library);
+        let compiled = run(compiler.args([source, "-ldl"]), b"");
+        assert_eq!(compiled.status, 0, "{compiled:?}");
+        let mut tool = Command::new(TOOL);
+        tool.args(words).current_dir(&self.0);
+        tool.args(["local=local", "tags=tags", "remote=remote", "key=key"]);
+        tool.env("LD_PRELOAD", library).envs(wishes.iter().copied());
+        run(&mut tool, input)
+    }
+
     pub fn run_words(&self, words: &[&str], input: &[u8]) -> Run {
         let mut tool = Command::new(TOOL);
         tool.args(words).current_dir(&self.0);
