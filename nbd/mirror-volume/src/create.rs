@@ -147,7 +147,7 @@ fn made(superblock: &Superblock) -> String {
     let shape = &superblock.shape;
     format!(
         "made the disk {}: {} of {} bytes, {}\n\
-         {}: no other disk under this key may have such a number\n",
+         parts: {}; no other disk under this key may have such a number\n",
         superblock.uuid,
         sectors(shape.sectors),
         grouped(shape.sector_bytes as u64),

@@ -81,8 +81,8 @@ fn text(mended: [u64; 3], left: &Report) -> String {
     };
     match left.outcome() {
         Outcome::Whole => {
-            let sectors = grouped(left.sectors());
-            text.push_str(&format!("whole are all of the disk's sectors: {sectors}\n"));
+            let all = sectors(left.sectors());
+            text.push_str(&format!("the disk is whole: {all}\n"));
         }
         _ => {
             text.push_str("what is not whole, and cannot be mended:\n");

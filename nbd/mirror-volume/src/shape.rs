@@ -120,13 +120,13 @@ impl Shape {
         self.sectors.div_ceil(self.part_sectors)
     }
 
-    /// The parts and their numbers, in words.
+    /// How many parts there are, and their numbers, in words.
     pub fn parts_in_words(&self) -> String {
         let (parts, first) = (self.parts(), self.first_number);
         match parts {
-            1 => format!("1 part, with the number {first}"),
+            1 => format!("1, with the number {first}"),
             _ => format!(
-                "{} parts of {}, with the numbers {first} to {}",
+                "{} of {}, with the numbers {first} to {}",
                 grouped(parts),
                 sectors(self.part_sectors),
                 self.number_of(parts - 1)

@@ -30,7 +30,7 @@ fn create_makes_the_files_of_the_format() {
         0,
         &[
             "20,480 bytes, 20 KiB",
-            "3 parts of 16 sectors, with the numbers 5 to 7",
+            "3 of 16 sectors, with the numbers 5 to 7",
             "whole     40\n",
             "health    1,000 of 1,000",
         ],
@@ -168,7 +168,7 @@ fn damage_is_found_and_mended_in_each_place() {
         let run = folder.run("mend", &[]);
         run.ends_with(
             0,
-            &["mended 4 sectors", &text, "all of the disk's sectors: 40\n"],
+            &["mended 4 sectors", &text, "the disk is whole: 40 sectors\n"],
         );
         assert_eq!(folder.bytes(name), before);
         assert_eq!(folder.status().status, 0);
@@ -461,10 +461,8 @@ fn a_place_that_cannot_be_read_is_a_damaged_one() {
             "  sector 5: doubtful at the local sector\n",
         ],
     );
-    assert!(
-        run.errors.contains("1 places of local could not be read"),
-        "{run:?}"
-    );
+    let note = "places of local that could not be read, and count as damaged: 1:";
+    assert!(run.errors.contains(note), "{run:?}");
     let run = folder.run_on_medium(&["status", "--json"], b"", &[BAD_PLACE]);
     run.ends_with(
         1,
