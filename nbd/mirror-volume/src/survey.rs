@@ -52,17 +52,17 @@ impl Report {
     /// Counts a sector, and lists it if it is not whole. Within a kind the numbers
     /// rise.
     pub fn add(&mut self, sector: u64, kind: Option<Kind>) {
+        let Some(kind) = kind else {
+            self.whole += 1;
+            return;
+        };
         let (count, runs) = match kind {
-            None => {
-                self.whole += 1;
-                return;
-            }
-            Some(Kind::Lost) => (&mut self.lost, &mut self.lost_runs),
-            Some(Kind::Clashing) => (&mut self.clashing, &mut self.clashing_runs),
-            Some(Kind::Doubtful(_)) => (&mut self.doubtful, &mut self.doubtful_runs),
+            Kind::Lost => (&mut self.lost, &mut self.lost_runs),
+            Kind::Clashing => (&mut self.clashing, &mut self.clashing_runs),
+            Kind::Doubtful(_) => (&mut self.doubtful, &mut self.doubtful_runs),
         };
         *count += 1;
-        push(runs, sector, kind.expect("it is not whole"));
+        push(runs, sector, kind);
     }
 
     pub fn add_unreadable(&mut self, unreadable: [u64; 3]) {

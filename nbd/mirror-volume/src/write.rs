@@ -12,7 +12,7 @@ use crate::output::{self, Outcome};
 use crate::progress::Progress;
 use crate::runs::Kind;
 use crate::shape::{Role, Shape};
-use crate::size;
+use crate::size::sectors;
 use crate::survey::{judge, Report};
 use crate::window::{Touched, Window};
 
@@ -32,17 +32,32 @@ pub fn run(arguments: &Arguments) -> Result<Outcome, Failure> {
     let disk = Disk::open(arguments, Access::Write)?;
     let input = read_input(disk.shape(), first)?;
     let count = input.len() / disk.shape().sector_bytes;
-    let sectors = first..first + count as u64;
-    let found = judge_all(&disk, sectors.clone())?;
+    let range = first..first + count as u64;
+    let found = judge_all(&disk, range.clone())?;
     disk.note_unreadable(found.unreadable);
     if found.clashing > 0 || found.lost > 0 && !overwrite_lost {
         refuse(&found);
         return Ok(Outcome::Damaged);
     }
-    write_all(&disk, sectors.clone(), &input, overwrite_lost)?;
-    let count = size::sectors(sectors.end - sectors.start);
-    output::print(&format!("wrote {count} from sector {first} on\n"))?;
+    write_all(&disk, range, &input, overwrite_lost)?;
+    output::print(&written(first, &found))?;
     Ok(Outcome::Whole)
+}
+
+fn written(first: u64, found: &Report) -> String {
+    let mut text = format!(
+        "wrote {} from sector {first} on\n",
+        sectors(found.sectors())
+    );
+    for (count, what) in [
+        (found.doubtful, "doubtful, and mended"),
+        (found.lost, "lost, and blanked"),
+    ] {
+        if count > 0 {
+            text.push_str(&format!("before that, {what}: {}\n", sectors(count)));
+        }
+    }
+    text
 }
 
 /// All of standard input: sectors that the disk has.

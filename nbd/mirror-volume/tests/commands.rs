@@ -349,7 +349,7 @@ fn a_write_mends_what_is_doubtful() {
         folder.run_with_input("write", &["sector=4"], &noise(3 * 512));
         folder.damage_place(name, 5);
         let run = folder.run_with_input("write", &["sector=5"], &[9; 512]);
-        assert_eq!(run.status, 0, "{run:?}");
+        run.ends_with(0, &["doubtful, and mended: 1 sector\n"]);
         assert_eq!(folder.run("read", &["sector=5"]).bytes, [9; 512]);
         assert_eq!(
             folder.run("read", &["sector=6"]).bytes,
@@ -372,7 +372,7 @@ fn a_lost_sector_is_overwritten_only_if_asked() {
     assert!(run.errors.contains("overwrite-lost=true"), "{run:?}");
     assert!(before == files(), "nothing was to be written");
     let run = folder.run_with_input("write", &["sector=2", "overwrite-lost=true"], &data);
-    assert_eq!(run.status, 0, "{run:?}");
+    run.ends_with(0, &["wrote 30 sectors", "lost, and blanked: 1 sector\n"]);
     assert_eq!(folder.run("read", &["sector=2", "count=30"]).bytes, data);
     assert_eq!(folder.status().status, 0);
 }
