@@ -109,9 +109,12 @@ fn after_cut(before: &Files, events: &[Event], way: usize, dice: &mut Dice) -> F
     files
 }
 
-/// Looks at every state that a cut can leave.
-fn cut_everywhere(before: &Files, events: &[Event], mut look: impl FnMut(&Files)) {
+/// Looks at every state that a cut can leave. When the command has ended all that it
+/// wrote is on the medium.
+fn cut_everywhere(folder: &Folder, before: &Files, events: &[Event], mut look: impl FnMut(&Files)) {
     let mut dice = Dice(1);
+    let end = after_cut(before, events, 0, &mut dice);
+    assert!(end == files(folder), "something was not flushed");
     for cut in 0..=events.len() {
         for way in 0..WAYS {
             look(&after_cut(before, &events[..cut], way, &mut dice));
@@ -159,7 +162,7 @@ fn a_cut_in_a_write_leaves_the_old_data_or_the_new() {
     let (before, new) = (files(&folder), vec![9; 20 * 512]);
     let (run, events) = recorded(&folder, &["write", "sector=10"], &new);
     assert_eq!(run.status, 0, "{run:?}");
-    cut_everywhere(&before, &events, |files| {
+    cut_everywhere(&folder, &before, &events, |files| {
         for number in 0..SECTORS {
             let found = plaintext(files, number).expect("no sector is lost");
             let is_new = (10..30).contains(&number) && found == new[..512];
@@ -179,7 +182,7 @@ fn a_cut_while_lost_sectors_are_overwritten_harms_no_other() {
     let words = ["write", "sector=10", "overwrite-lost=true"];
     let (run, events) = recorded(&folder, &words, &new);
     assert_eq!(run.status, 0, "{run:?}");
-    cut_everywhere(&before, &events, |files| {
+    cut_everywhere(&folder, &before, &events, |files| {
         for number in (0..SECTORS).filter(|&number| number != 12) {
             let found = plaintext(files, number).expect("no other sector is lost");
             let is_new = (10..30).contains(&number) && found == new[..512];
@@ -197,7 +200,7 @@ fn a_cut_in_a_mend_leaves_the_data() {
     let before = files(&folder);
     let (run, events) = recorded(&folder, &["mend"], b"");
     assert_eq!(run.status, 0, "{run:?}");
-    cut_everywhere(&before, &events, |files| {
+    cut_everywhere(&folder, &before, &events, |files| {
         for number in 0..SECTORS {
             let found = plaintext(files, number).expect("no sector is lost");
             assert_eq!(found, old[number * 512..][..512], "sector {number}");
@@ -235,7 +238,7 @@ fn a_superblock_is_written_when_all_sectors_are() {
     assert_eq!(run.status, 0, "{run:?}");
     let mut seen = [false; 2];
     let none = NAMES.map(|_| Vec::new());
-    cut_everywhere(&none, &events, |files| {
+    cut_everywhere(&folder, &none, &events, |files| {
         let has_superblock = files.iter().any(|file| file.starts_with(b"DCMIRROR"));
         seen[usize::from(has_superblock)] = true;
         if has_superblock {
