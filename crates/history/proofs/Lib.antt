@@ -12,3 +12,4 @@ pub mod Cuts
 pub mod Witness
 pub mod Rules
 pub mod Number
+pub mod RuleNumbers

@@ -8,17 +8,17 @@ use native.Mathlib.Omega.{arith}
 use lib.ListN.{length}
 use Rattle.block.proofs.Lists.{clash}
 use Rattle.mode.specs.Sealing.{Key, Triple, tweak, sealed}
-use Rattle.mode.specs.Scheme.{on, isKey, Scheme, scheme}
+use Rattle.mode.specs.Scheme.{on, isKey, scheme}
 use Rattle.answers.specs.Rules.{Rule, firstOf, settle, Args, args, Volume, volumeOf, isShape, isZeroHash, keyRules, sizeRules, lengthRules, sideRules, shapeRules, numberRules, listRules, mapRules, pairRules}
 use Rattle.answers.proofs.Keys.{keys-refused}
 use Rattle.answers.proofs.Numbers.{doubt-least}
 use Rattle.verdict.specs.Verdict.{Verdict, whole, doubtful, lost, clashing, judge, placeOf, otherSide, sideOf, opened}
 use Rattle.verdict.specs.Judging.{verdictOutcome}
 use Rattle.sector.specs.Calls.{openOutcome, openWith, sealCall, judgeCall, openCall, rebuildCall}
-use Rattle.history.specs.Volume.{Call, blank, first, second, third, mend, read, lengths, judgeRules, late, sealing, sector, mirror}
+use Rattle.history.specs.Volume.{Call, read, lengths, late, sealing, sector, mirror}
+use Rattle.history.proofs.RuleNumbers.{Every, every-first, every-own}
 use Rattle.suspects.specs.Marks.{isFinished, mapOutcome, mapSurveyRefusal, mapSurveyOutcome}
 use Rattle.suspects.specs.Calls.{callOrder}
-use Rattle.suspects.proofs.Marking.{Every, every-first, every-both}
 use Rattle.suspects.proofs.Calls.{map-calls}
 use Rattle.writes.specs.Write.{writeOutcome}
 use Rattle.mirror.specs.Survey.{surveyResult}
@@ -39,28 +39,6 @@ verdict-not clashing out e = omega arith
 opened-not : (f : List ℕ → List ℕ) (o : Option (List ℕ)) (out : List ℕ) → Not14 (openOutcome f o out .0)
 opened-not f none out e = omega arith
 opened-not f (some P) out e = omega arith
-
-judge-not : (w : Verdict) → Every Not14 (judgeRules w)
-judge-not (whole P) = tt
-judge-not (doubtful d P) = tt
-judge-not lost = (λ e. omega arith, tt)
-judge-not clashing = (λ e. omega arith, tt)
-
-late-not : (S : Scheme) (i : ℕ) (t : Triple) (c : Call) → Every Not14 (late S i t c)
-late-not S i t blank = tt
-late-not S i t (first P) = (λ e. omega arith, tt)
-late-not S i t (second P) = (λ e. omega arith, tt)
-late-not S i t (third P) = (λ e. omega arith, tt)
-late-not S i t mend = judge-not (judge S i t)
-late-not S i t (read o) = judge-not (judge S i t)
-
-lengths-not : (a : Args) (c : Call) → Every Not14 (lengths a c)
-lengths-not a blank = tt
-lengths-not a (first P) = (λ e. omega arith, tt)
-lengths-not a (second P) = (λ e. omega arith, tt)
-lengths-not a (third P) = (λ e. omega arith, tt)
-lengths-not a mend = tt
-lengths-not a (read o) = (λ e. omega arith, tt)
 
 some-same : {m n : ℕ} → _≡_ {A = Option ℕ} (some m) (some n) → m ≡ n
 some-same {m} e = ap (λ (o : Option ℕ). value o) e
@@ -106,7 +84,7 @@ module _ (k : Key) (other : isZeroHash k ≡ false) where
           λ e. omega arith,
           (
             λ e. omega arith,
-            every-both Not14 (lengths a c) (late (sealing mirror a) i (sector v a) c) (lengths-not a c) (late-not (sealing mirror a) i (sector v a) c),
+            every-own Not14 mirror v a c (λ e. omega arith) (λ e. omega arith) (λ e. omega arith) (λ e. omega arith),
           ),
         ),
       ),

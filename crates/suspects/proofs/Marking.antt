@@ -2,7 +2,7 @@
 use mathlib.Core.Path.{_≡_, refl, sym, _∙_, ap, subst}
 use mathlib.Core.Logic.{_⊎_, inl, inr}
 use mathlib.Core.Bool.{Bool, true, false, not, cond}
-use mathlib.Core.List.{List, [], _∷_, _++_}
+use mathlib.Core.List.{List, _∷_, _++_}
 use mathlib.Core.Option.{Option, none, some}
 use Prim.Native.Nat.{ℕ, _/_, _<_}
 use native.Mathlib.Decide.{ℕ-discrete}
@@ -15,15 +15,15 @@ use Rattle.bits.proofs.Bits.{bit-mark-same, bit-mark-other, length-mark, words-
 use Rattle.mode.specs.Sealing.{Triple}
 use Rattle.mode.specs.Scheme.{Place, local, tag, remote, Scheme}
 use Rattle.verdict.specs.Judging.{verdictDoubt}
-use Rattle.verdict.specs.Verdict.{Verdict, whole, doubtful, lost, clashing, judge}
+use Rattle.verdict.specs.Verdict.{judge}
 use Rattle.answers.specs.declared.Refusal.{Refusal}
 use Rattle.answers.specs.Answers.{doubtNumber, foundNumber, refusalNumber}
 use Rattle.answers.proofs.Numbers.{refusal-range}
 use Rattle.answers.specs.Rules.{Rule, rule, firstOf, Args, Volume, isShape, mapWords, volumeRules, mapRules, numberRules}
 use Rattle.answers.proofs.Rules.{cond-none, only-rule, none-right}
 use Rattle.history.specs.Answers.{answerNumber}
-use Rattle.history.specs.Volume.{Call, blank, first, second, third, mend, read, lengths, judgeRules, late, result, sector, sealing, mirror}
-use Rattle.history.proofs.Options.{none-some}
+use Rattle.history.specs.Volume.{Call, blank, first, second, third, mend, read, lengths, late, result, sector, sealing, mirror}
+use Rattle.history.proofs.RuleNumbers.{Every, every-first, every-both, every-so, every-own}
 use Rattle.suspects.specs.declared.Mark.{Mark}
 use Rattle.suspects.specs.declared.Mark.the-variants.{Clears, Sets, Keeps}
 use Rattle.suspects.specs.Marks.{isFinished, finishing, lostOrClashing, refusing, marks, marked, mapRefusal, firstRules}
@@ -114,30 +114,6 @@ module _ (v : Triple) (a : Args) (m : List ℕ) where
   pub room : (x : Mark) → mapRefusal v a m ≡ none → Room x (a .number) (length m)
   room x e = within x (a .number) (length m) (in-map e)
 
--- ---- the first of a list of rules
-
--- the number of every rule has the property
-abbrev pub Every : (ℕ → Type 0) → List Rule → Type 0
-Every P [] = Unit {0}
-Every P (r ∷ rs) = P (r .number) × Every P rs
-
-module _ (P : ℕ → Type 0) where
-  pub every-first : (rs : List Rule) → Every P rs → (k : ℕ) → firstOf rs ≡ some k → P k
-  every-first [] q k e = absurd (none-some e)
-  every-first (r ∷ rs) q k e = go (r .condition) (every-first rs (q .1) k) e
-    where
-      go : (b : Bool) → (firstOf rs ≡ some k → P k) → cond b (some (r .number)) (firstOf rs) ≡ some k → P k
-      go true h z = let n : r .number ≡ k = cc in subst P n (q .0)
-      go false h z = h z
-
-  pub every-both : (xs ys : List Rule) → Every P xs → Every P ys → Every P (xs ++ ys)
-  every-both [] ys p q = q
-  every-both (x ∷ xs) ys p q = (p .0, every-both xs ys (p .1) q)
-
-every-so : (P Q : ℕ → Type 0) → ((k : ℕ) → P k → Q k) → (rs : List Rule) → Every P rs → Every Q rs
-every-so P Q f [] h = tt
-every-so P Q f (r ∷ rs) h = (f (r .number) (h .0), every-so P Q f rs (h .1))
-
 -- ---- the numbers that mark it
 
 -- 6 and 7 of a read or a mend
@@ -171,15 +147,10 @@ before-quiet : (v : Triple) (a : Args) (m : List ℕ) → Every Quiet (firstRule
 unfolding isFinished lostOrClashing
 before-quiet v a m = ((refl, refl), ((refl, refl), ((refl, refl), ((refl, refl), ((refl, refl), ((refl, refl), tt))))))
 
--- 3
-lengths-quiet : (a : Args) (c : Call) → Every Quiet (lengths a c)
+-- 3 and 10
+own-quiet : Quiet 3 × Quiet 10
 unfolding isFinished lostOrClashing
-lengths-quiet a blank = tt
-lengths-quiet a (first P) = ((refl, refl), tt)
-lengths-quiet a (second P) = ((refl, refl), tt)
-lengths-quiet a (third P) = ((refl, refl), tt)
-lengths-quiet a mend = tt
-lengths-quiet a (read o) = ((refl, refl), tt)
+own-quiet = ((refl, refl), (refl, refl))
 
 -- ---- a refusal, whichever it is
 
@@ -190,29 +161,23 @@ before-keeps v a m c k e = quiet-keeps c k (every-first Quiet (firstRules v a m)
 abbrev pub Ends : Call → ℕ → Type 0
 Ends c k = (marks c k ≡ Keeps) ⊎ (Judges c × ((k ≡ 6) ⊎ (k ≡ 7)))
 
-judge-ends : (c : Call) → Judges c → (w : Verdict) → Every (Ends c) (judgeRules w)
-judge-ends c j (whole P) = tt
-judge-ends c j (doubtful p P) = tt
-judge-ends c j lost = (inr (j, inl refl), tt)
-judge-ends c j clashing = (inr (j, inr refl), tt)
-
-late-ends : (S : Scheme) (i : ℕ) (t : Triple) (c : Call) → Every (Ends c) (late S i t c)
+-- 6 and 7, which only a read or a mend marks
+judged-ends : (c : Call) → Ends c 6 × Ends c 7
 unfolding isFinished
-late-ends S i t blank = tt
-late-ends S i t (first P) = (inl refl, tt)
-late-ends S i t (second P) = (inl refl, tt)
-late-ends S i t (third P) = (inl refl, tt)
-late-ends S i t mend = judge-ends mend (inl refl) (judge S i t)
-late-ends S i t (read o) = judge-ends (read o) (inr (o, refl)) (judge S i t)
+judged-ends blank = (inl refl, inl refl)
+judged-ends (first P) = (inl refl, inl refl)
+judged-ends (second P) = (inl refl, inl refl)
+judged-ends (third P) = (inl refl, inl refl)
+judged-ends mend = (inr (inl refl, inl refl), inr (inl refl, inr refl))
+judged-ends (read o) = (inr (inr (o, refl), inl refl), inr (inr (o, refl), inr refl))
 
 pub refused-ends : (v : Triple) (a : Args) (c : Call) (m : List ℕ) (k : ℕ) → firstOf (callOrder v a c m) ≡ some k → Ends c k
 refused-ends v a c m k e =
-    let S : Scheme = sealing mirror a in
-    let own : List Rule = late S (a .number) (sector v a) c in
+    let own : List Rule = lengths a c ++ late (sealing mirror a) (a .number) (sector v a) c in
     let quiet : (k : ℕ) → Quiet k → Ends c k = λ k q. inl (quiet-keeps c k q) in
     every-first (Ends c) (callOrder v a c m)
-    (every-both (Ends c) (firstRules v a m) (lengths a c ++ own) (every-so Quiet (Ends c) quiet (firstRules v a m) (before-quiet v a m))
-    (every-both (Ends c) (lengths a c) own (every-so Quiet (Ends c) quiet (lengths a c) (lengths-quiet a c)) (late-ends S (a .number) (sector v a) c)))
+    (every-both (Ends c) (firstRules v a m) own (every-so Quiet (Ends c) quiet (firstRules v a m) (before-quiet v a m))
+    (every-own (Ends c) mirror v a c (quiet 3 (own-quiet .0)) (judged-ends c .0) (judged-ends c .1) (quiet 10 (own-quiet .1))))
     k e
 
 pub others-keep : (c : Call) (k : ℕ) → (Judges c → (k ≡ 6 → ⊥) × (k ≡ 7 → ⊥)) → Ends c k → marks c k ≡ Keeps
