@@ -8,3 +8,6 @@ none-some {A} {x} e = subst isNone e tt
     isNone : Option A → Type 0
     isNone none = Unit {0}
     isNone (some y) = ⊥
+
+pub some-inj : {A : Type 0} {x y : A} → some x ≡ some y → x ≡ y
+some-inj e = cc

@@ -23,7 +23,8 @@ use Rattle.history.specs.HistoryFrom.{Agree, AnyBytes, Agrees}
 use Rattle.block.proofs.Lists.{same-eq, ne-same}
 use Rattle.verdict.proofs.JudgeExact.{one-for-all, judge-means}
 use Rattle.history.proofs.Refusals.{passed, refusal-late, answer-late}
-use Rattle.history.proofs.Sector.{some-inj, agree-two, agree-doubtful, judge-sure, whole-accepted}
+use Rattle.history.proofs.Options.{some-inj}
+use Rattle.history.proofs.Sector.{agree-two, agree-doubtful, judge-sure, whole-accepted}
 use Rattle.history.proofs.Images.{any-bytes, sector-images, passed-lawful, first-landed, AllSound}
 use Rattle.history.proofs.Outcomes.{read-late}
 use Rattle.history.proofs.Events.{argsOf, takes-args, call-others}

@@ -18,7 +18,7 @@ use Rattle.history.specs.Machine.{toldCut, Held, gone, kept, step, after
 use Rattle.history.specs.Power.{Cut, Fate, finished, cut, CutOf, torn, told}
 use Rattle.history.specs.HistoryFrom.{Agree}
 use Rattle.block.proofs.Lists.{clash, false-true, and-left, and-right, and-both, plain-zeros}
-use Rattle.history.proofs.Options.{none-some}
+use Rattle.history.proofs.Options.{none-some, some-inj}
 use Rattle.verdict.proofs.JudgeExact.{same-place, FitsBut, fits-Fits, Fits-fits, but-two, but-miss, one-for-all, judge-means, means-once}
 use Rattle.answers.proofs.Rules.{cond-none, only-rule}
 use Rattle.history.proofs.Refusals.{Sized}
@@ -36,9 +36,6 @@ lands (cut k) written found p = torn k written found p
 -- what a call on sector i with this fate, if it is not refused, leaves in its places t
 abbrev pub sectorAfter : ℕ → Scheme → ℕ → Triple → Call → Fate → Triple
 sectorAfter s S i t c f = storeAll (lands f (S .sealed i (writes s S i t c .plain)) t) (writes s S i t c .places) t
-
-pub some-inj : {p q : Place} → some p ≡ some q → p ≡ q
-some-inj e = cc
 
 pub on-store : (p : Place) (b : List ℕ) (t : Triple) → on (store p b t) p ≡ b
 on-store local b t = refl

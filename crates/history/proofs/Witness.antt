@@ -25,7 +25,8 @@ use Rattle.history.proofs.Events.{argsOf, put-same, machine-accepted, e
 use Rattle.history.proofs.History.{start-agrees}
 use Rattle.history.proofs.Images.{any-bytes, sector-images, first-landed}
 use Rattle.history.proofs.Refusals.{passes-early, refusal-late}
-use Rattle.history.proofs.Sector.{some-inj, judge-sure, whole-accepted, local-accepted, tagged-accepted}
+use Rattle.history.proofs.Options.{some-inj}
+use Rattle.history.proofs.Sector.{judge-sure, whole-accepted, local-accepted, tagged-accepted}
 
 -- images of the right lengths pass check 8
 pub images-shape : (s n : ℕ) (v : Triple) → 1 ≤ n → n ≤ 65536 → Images s n v → isShape s n v ≡ true

@@ -16,6 +16,7 @@ use Rattle.verdict.specs.Verdict.{Verdict, whole, doubtful, lost, clashing, jud
 use Rattle.verdict.specs.Judging.{verdictOutcome}
 use Rattle.sector.specs.Calls.{openOutcome, openWith, sealCall, judgeCall, openCall, rebuildCall}
 use Rattle.history.specs.Volume.{Call, read, lengths, late, sealing, sector, mirror}
+use Rattle.history.proofs.Options.{some-inj}
 use Rattle.history.proofs.RuleNumbers.{Every, every-first, every-own}
 use Rattle.suspects.specs.Marks.{isFinished, mapOutcome, mapSurveyRefusal, mapSurveyOutcome}
 use Rattle.suspects.specs.Calls.{callOrder}
@@ -40,13 +41,6 @@ opened-not : (f : List ℕ → List ℕ) (o : Option (List ℕ)) (out : List ℕ
 opened-not f none out e = omega arith
 opened-not f (some P) out e = omega arith
 
-some-same : {m n : ℕ} → _≡_ {A = Option ℕ} (some m) (some n) → m ≡ n
-some-same {m} e = ap (λ (o : Option ℕ). value o) e
-  where
-    value : Option ℕ → ℕ
-    value none = m
-    value (some x) = x
-
 -- ---- the calls
 
 module _ (k : Key) (other : isZeroHash k ≡ false) where
@@ -55,7 +49,7 @@ module _ (k : Key) (other : isZeroHash k ≡ false) where
     where
       go : (b : Bool) → isKey k ≡ b → ⊥
       go true e = every-first Not14 rest q 14 (sym (keys-refused .goes-on k rest e other) ∙ h) refl
-      go false e = let z : _≡_ {A = ℕ} 1 14 = some-same (sym (keys-refused .another-length k rest e) ∙ h) in omega arith
+      go false e = let z : _≡_ {A = ℕ} 1 14 = some-inj (sym (keys-refused .another-length k rest e) ∙ h) in omega arith
 
   settled-not : {A : Type 0} (rest : List Rule) → Every Not14 rest → (after : ℕ × A) (before : A) → Not14 (after .0) → Not14 (settle (firstOf (keyRules k ++ rest)) after before .0)
   settled-not {A} rest q after before n = go (firstOf (keyRules k ++ rest)) refl
