@@ -14,8 +14,8 @@ pub enum Place {
     Remote,
 }
 
-// Document 01's refusals, from 1 on, and then those of the change requests. 12 is the program `frames`'s, 8 to 11 and
-// 13 are a volume's.
+// Document 01's refusals, from 1 on, and then those of the change requests. 12 is the program `frames`'s, 8 to 11 and 13 are a
+// volume's.
 pub enum Refusal {
     KeyLength,
     SectorSize,

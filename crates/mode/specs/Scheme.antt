@@ -1,5 +1,5 @@
 -- What judging, mending and a volume's history rest on: a scheme seals, and its two sides can be opened. Assumes nothing: these are
--- definitions. That the mode is lawful under every key and size that a call accepts is proved as `dcm-lawful` and `sound`.
+-- definitions. The mode is lawful under every key of 32 bytes, for every size that a call accepts: proved as `dcm-lawful` and `sound`.
 use mathlib.Core.Path.{_≡_}
 use mathlib.Core.Bool.{Bool, true, _&&_}
 use mathlib.Core.List.{List}
@@ -72,6 +72,6 @@ dcm E h = record {
 unfoldable pub scheme : Key → Scheme
 scheme k = dcm (cipherNumber (roundKeys k)) (hashKey k)
 
--- schemes that are lawful under every key and size that a call accepts
+-- schemes that are lawful under every key of 32 bytes, for every size that a call accepts
 pub record Sound (schemes : Key → Scheme) : Type 0 where
   pub lawful : (k : Key) (s : ℕ) → isKey k ≡ true → isSize s ≡ true → Lawful s (schemes k)
