@@ -32,6 +32,14 @@ static bool is_shape(const struct superblock *b)
            b->parts == (b->sectors - 1) / b->part_sectors + 1 && b->first_number <= UINT64_MAX - (b->parts - 1);
 }
 
+static bool is_zero(const uint8_t *from, const uint8_t *end)
+{
+    while (from < end)
+        if (*from++ != 0)
+            return false;
+    return true;
+}
+
 const char *superblock_decode(const uint8_t bytes[SUPERBLOCK_BYTES], struct superblock *to)
 {
     if (memcmp(bytes, "DCMIRROR", 8) != 0)
@@ -48,7 +56,7 @@ const char *superblock_decode(const uint8_t bytes[SUPERBLOCK_BYTES], struct supe
     to->sectors = little_endian(bytes + 40, 8);
     to->parts = (uint32_t)little_endian(bytes + 48, 4);
     to->first_number = little_endian(bytes + 56, 8);
-    if (to->role >= PLACES || !is_shape(to))
+    if (to->role >= PLACES || !is_shape(to) || !is_zero(bytes + 52, bytes + 56) || !is_zero(bytes + 64, bytes + CRC_AT))
         return "has a superblock with numbers that no disk has: it was not made by mirror-volume";
     return NULL;
 }
