@@ -18,9 +18,11 @@
 #include <syslog.h>
 #include <unistd.h>
 
+const char *const disk_parameters[PLACES] = {"local", "tags", "remote"};
+
 /* The file of each place. */
 static struct image {
-    const char *parameter, *path;
+    const char *path;
     int file;
     dev_t device;
     ino_t inode;
@@ -32,11 +34,14 @@ static struct image {
     uint64_t asked, landed;
     bool flushing;
 } images[PLACES] = {
-    {.parameter = "local", .file = -1, .mutex = PTHREAD_MUTEX_INITIALIZER, .turn = PTHREAD_COND_INITIALIZER},
-    {.parameter = "tags", .file = -1, .mutex = PTHREAD_MUTEX_INITIALIZER, .turn = PTHREAD_COND_INITIALIZER},
-    {.parameter = "remote", .file = -1, .mutex = PTHREAD_MUTEX_INITIALIZER, .turn = PTHREAD_COND_INITIALIZER},
+    {.file = -1, .mutex = PTHREAD_MUTEX_INITIALIZER, .turn = PTHREAD_COND_INITIALIZER},
+    {.file = -1, .mutex = PTHREAD_MUTEX_INITIALIZER, .turn = PTHREAD_COND_INITIALIZER},
+    {.file = -1, .mutex = PTHREAD_MUTEX_INITIALIZER, .turn = PTHREAD_COND_INITIALIZER},
 };
 static atomic_bool stopped;
+/* Held by those who write tags, and alone by the one that flushes them. A page of tags that is on its way to the medium while a tag is
+ * copied into it could take half of that tag along. */
+static pthread_rwlock_t tags_lock = PTHREAD_RWLOCK_INITIALIZER;
 
 void notice(const char *format, ...)
 {
@@ -56,9 +61,20 @@ void notice(const char *format, ...)
 
 /* ---- opening */
 
+static const char *parameter(const struct image *image)
+{
+    return disk_parameters[image - images];
+}
+
 static int wrong(const struct image *image, const char *what)
 {
-    nbdkit_error("%s=%s: %s", image->parameter, image->path, what);
+    nbdkit_error("%s=%s: %s", parameter(image), image->path, what);
+    return -1;
+}
+
+static int cannot(const struct image *image, const char *be_done, const char *what_to_do)
+{
+    nbdkit_error("%s=%s: cannot be %s: %s: %s", parameter(image), image->path, be_done, strerror(errno), what_to_do);
     return -1;
 }
 
@@ -68,7 +84,7 @@ static int read_key(uint8_t key[MIRROR_KEY_BYTES], const char *path)
     struct stat about;
     const int file = open(path, O_RDONLY | O_CLOEXEC);
     const ssize_t length = file < 0 ? -1 : read(file, bytes, sizeof bytes);
-    const bool is_open = file >= 0 && fstat(file, &about) == 0 && (about.st_mode & 077) != 0;
+    const bool others_may_read = file >= 0 && fstat(file, &about) == 0 && (about.st_mode & 077) != 0;
     if (file >= 0)
         close(file);
     if (length != MIRROR_KEY_BYTES) {
@@ -76,7 +92,7 @@ static int read_key(uint8_t key[MIRROR_KEY_BYTES], const char *path)
                      length < 0 ? strerror(errno) : "a key file has exactly 32 bytes: give the one that the disk was made with");
         return -1;
     }
-    if (is_open)
+    if (others_may_read)
         notice("key=%s: others than its owner may read it: chmod 600 it", path);
     memcpy(key, bytes, MIRROR_KEY_BYTES);
     return 0;
@@ -87,9 +103,9 @@ static int open_image(struct image *image)
     struct stat about;
     image->file = open(image->path, O_RDWR | O_CLOEXEC);
     if (image->file < 0)
-        return wrong(image, errno == ENOENT
-                                ? "there is no such file: see the name; if the file is lost, mirror-volume replace makes it anew"
-                                : strerror(errno));
+        return cannot(image, "opened",
+                      errno == ENOENT ? "see the name; if the file is lost, mirror-volume replace makes it anew"
+                                      : "see to it that the server may read and write it");
     if (fstat(image->file, &about) < 0 || !S_ISREG(about.st_mode))
         return wrong(image, "is no regular file");
     image->device = about.st_dev;
@@ -97,26 +113,43 @@ static int open_image(struct image *image)
     for (const struct image *other = images; other != image; other++)
         if (other->device == image->device && other->inode == image->inode)
             return wrong(image, "is named twice: give each of the disk's three files once");
-    if (flock(image->file, LOCK_EX | LOCK_NB) < 0)
-        return wrong(image,
-                     errno == EWOULDBLOCK ? "is in use by another server or by mirror-volume: stop that one first" : strerror(errno));
+    if (flock(image->file, LOCK_EX | LOCK_NB) == 0)
+        return 0;
+    if (errno != EWOULDBLOCK)
+        return cannot(image, "locked", "keep it on a file system with flock");
+    return wrong(image, "is in use by another server or by mirror-volume: stop that one first");
+}
+
+static int read_superblock(struct image *image)
+{
+    const ssize_t length = pread(image->file, image->superblock, SUPERBLOCK_BYTES, 0);
+    if (length < 0)
+        return cannot(image, "read", "see to its medium, or copy what can be read to another file and give that");
+    if (length < SUPERBLOCK_BYTES)
+        memset(image->superblock, 0, SUPERBLOCK_BYTES);
     return 0;
 }
 
-static int read_superblock(struct image *image, uint32_t role)
+/* Where none has a superblock the message is another one: a file beside a disk's two is never to be thrown away. */
+static int check_there(void)
+{
+    for (int place = 0; place < PLACES; place++)
+        if (superblock_is_there(images[place].superblock))
+            return 0;
+    nbdkit_error("none of the three files has a superblock: see the names; if making the disk was cut and they never held data, move them "
+                 "away and make it again with mirror-volume create");
+    return -1;
+}
+
+static int check_superblock(struct image *image)
 {
     static const char *const swapped[PLACES] = {
         "is the local file of a disk: give it as local=", "is the tags file of a disk: give it as tags=",
         "is the remote file of a disk: give it as remote="};
-    const ssize_t length = pread(image->file, image->superblock, SUPERBLOCK_BYTES, 0);
-    if (length < 0)
-        return wrong(image, strerror(errno));
-    if (length < SUPERBLOCK_BYTES)
-        memset(image->superblock, 0, SUPERBLOCK_BYTES);
     const char *what = superblock_decode(image->superblock, &image->fields);
     if (what)
         return wrong(image, what);
-    return image->fields.role == role ? 0 : wrong(image, swapped[image->fields.role]);
+    return image->fields.role == image - images ? 0 : wrong(image, swapped[image->fields.role]);
 }
 
 /* Whether the three are of one disk; else the one that two others speak against is named. */
@@ -139,13 +172,14 @@ static int check_length(const struct image *image)
     struct stat about;
     const uint64_t due = superblock_file_bytes(&image->fields, (int)image->fields.role);
     if (fstat(image->file, &about) < 0)
-        return wrong(image, strerror(errno));
+        return cannot(image, "looked at", "see to its medium");
     if ((uint64_t)about.st_size == due)
         return 0;
-    nbdkit_error("%s=%s: has %lld bytes, and the disk's file has %" PRIu64 ": %s", image->parameter, image->path, (long long)about.st_size,
+    nbdkit_error("%s=%s: has %lld bytes, and the disk's file has %" PRIu64 ": %s", parameter(image), image->path, (long long)about.st_size,
                  due,
-                 (uint64_t)about.st_size < due ? "it was cut short; lengthen it by truncate -s with that length, and mend the disk"
-                                               : "see that it is the disk's file; what stands behind its end is not the disk's");
+                 (uint64_t)about.st_size < due
+                     ? "it was cut short; lengthen it by truncate -s with that length, and mend the disk"
+                     : "see that it is the disk's file; if a copy has padded it, shorten it by truncate -s with that length");
     return -1;
 }
 
@@ -159,13 +193,11 @@ static int check_key(const struct image *image, const struct disk *disk)
 }
 
 /* After a kill the kernel may hold what has not landed, and after a failed flush what never will. So what is there is flushed, and then
- * forgotten: what is read from now on is what the medium has. */
+ * forgotten, as far as the kernel does that: what is read from now on is what the medium has. */
 static int settle(const struct image *image)
 {
-    if (fsync(image->file) < 0) {
-        nbdkit_error("%s=%s: flushing has failed: %s: see to the medium", image->parameter, image->path, strerror(errno));
-        return -1;
-    }
+    if (fsync(image->file) < 0)
+        return cannot(image, "flushed", "see to its medium");
     (void)posix_fadvise(image->file, 0, 0, POSIX_FADV_DONTNEED);
     return 0;
 }
@@ -180,7 +212,12 @@ int disk_open(struct disk *disk, char *const paths[PLACES], const char *key_path
         if (open_image(&images[place]) < 0)
             return -1;
     for (int place = 0; place < PLACES; place++)
-        if (read_superblock(&images[place], (uint32_t)place) < 0)
+        if (read_superblock(&images[place]) < 0)
+            return -1;
+    if (check_there() < 0)
+        return -1;
+    for (int place = 0; place < PLACES; place++)
+        if (check_superblock(&images[place]) < 0)
             return -1;
     if (agree() < 0)
         return -1;
@@ -221,9 +258,9 @@ static off_t place_at(const struct disk *disk, int place, uint64_t sector)
 static void log_unread(int place, uint64_t first, uint64_t last, const char *why)
 {
     if (first == last)
-        nbdkit_error("sector %" PRIu64 ": %s cannot be read: %s", first, images[place].parameter, why);
+        nbdkit_error("sector %" PRIu64 ": %s cannot be read: %s", first, disk_parameters[place], why);
     else
-        nbdkit_error("sectors %" PRIu64 " to %" PRIu64 ": %s cannot be read: %s", first, last, images[place].parameter, why);
+        nbdkit_error("sectors %" PRIu64 " to %" PRIu64 ": %s cannot be read: %s", first, last, disk_parameters[place], why);
 }
 
 /* Up to where nothing is tried after a failed read at `done`: the end of the page, and of the sector there. A medium that is asked again
@@ -268,7 +305,7 @@ void disk_forget(const struct disk *disk, uint64_t first, size_t count)
                             POSIX_FADV_DONTNEED);
 }
 
-int disk_write(const struct disk *disk, int place, uint64_t first, size_t count, const uint8_t *from)
+static int write_places(const struct disk *disk, int place, uint64_t first, size_t count, const uint8_t *from)
 {
     const size_t unit = superblock_unit(&disk->shape, place), length = count * unit;
     const off_t to = place_at(disk, place, first);
@@ -283,12 +320,24 @@ int disk_write(const struct disk *disk, int place, uint64_t first, size_t count,
             done += (size_t)put;
         } else if (put == 0 || errno != EINTR) {
             const int why = put == 0 ? EIO : errno;
-            nbdkit_error("sector %" PRIu64 ": %s cannot be written: %s", first + done / unit, images[place].parameter, strerror(why));
+            nbdkit_error("sector %" PRIu64 ": %s cannot be written: %s", first + done / unit, disk_parameters[place], strerror(why));
             errno = why;
             return -1;
         }
     }
     return 0;
+}
+
+int disk_write(const struct disk *disk, int place, uint64_t first, size_t count, const uint8_t *from)
+{
+    if (place != TAG)
+        return write_places(disk, place, first, count, from);
+    pthread_rwlock_rdlock(&tags_lock);
+    const int result = write_places(disk, place, first, count, from);
+    const int why = errno;
+    pthread_rwlock_unlock(&tags_lock);
+    errno = why;
+    return result;
 }
 
 /* ---- flushing */
@@ -304,13 +353,17 @@ static void flush(struct image *image)
     const uint64_t covers = image->asked;
     image->flushing = true;
     pthread_mutex_unlock(&image->mutex);
+    if (image == &images[TAG])
+        pthread_rwlock_wrlock(&tags_lock);
     const int failed = fdatasync(image->file) < 0 ? errno : 0;
+    if (image == &images[TAG])
+        pthread_rwlock_unlock(&tags_lock);
     pthread_mutex_lock(&image->mutex);
     image->flushing = false;
     if (failed) {
         stopped = true;
         nbdkit_error("%s: flushing has failed: %s: nothing more is written; stop the server, see to the medium, and start again",
-                     image->parameter, strerror(failed));
+                     parameter(image), strerror(failed));
     } else {
         image->landed = covers;
     }

@@ -10,6 +10,9 @@ struct disk {
     struct superblock shape; /* what the three superblocks agree in; role is unused */
 };
 
+/* The parameters that name the files, by role. */
+extern const char *const disk_parameters[PLACES];
+
 /* Opens the files (paths by role) with the key in a file, checks them in FORMAT.md's order, and flushes them. -1 where something is wrong;
  * it has been logged, and nothing has been written. */
 int disk_open(struct disk *disk, char *const paths[PLACES], const char *key_path);

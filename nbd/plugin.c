@@ -13,12 +13,20 @@
 #include <stdio.h>
 #include <string.h>
 
-static const char *const parameters[PLACES] = {"local", "tags", "remote"};
 static char *paths[PLACES], *key_path;
 static int mend = 1, overwrite_lost, scrub;
 static struct disk disk;
 
 /* ---- parameters */
+
+static int take_path(char **path, const char *name, const char *value)
+{
+    if (*path) {
+        nbdkit_error("%s= is given twice: give each file once", name);
+        return -1;
+    }
+    return (*path = nbdkit_absolute_path(value)) ? 0 : -1;
+}
 
 static int take_config(const char *name, const char *value)
 {
@@ -27,10 +35,10 @@ static int take_config(const char *name, const char *value)
         int *flag;
     } flags[] = {{"mend", &mend}, {"overwrite-lost", &overwrite_lost}, {"scrub", &scrub}};
     for (int place = 0; place < PLACES; place++)
-        if (strcmp(name, parameters[place]) == 0)
-            return (paths[place] = nbdkit_absolute_path(value)) ? 0 : -1;
+        if (strcmp(name, disk_parameters[place]) == 0)
+            return take_path(&paths[place], name, value);
     if (strcmp(name, "key") == 0)
-        return (key_path = nbdkit_absolute_path(value)) ? 0 : -1;
+        return take_path(&key_path, name, value);
     for (size_t i = 0; i < sizeof flags / sizeof *flags; i++)
         if (strcmp(name, flags[i].name) == 0)
             return (*flags[i].flag = nbdkit_parse_bool(value)) < 0 ? -1 : 0;
@@ -43,7 +51,7 @@ static int check_config(void)
     for (int place = 0; place < PLACES; place++)
         if (!paths[place]) {
             nbdkit_error("%s= is missing: name the disk's three files and its key, local=FILE tags=FILE remote=FILE key=FILE",
-                         parameters[place]);
+                         disk_parameters[place]);
             return -1;
         }
     if (!key_path) {
@@ -78,6 +86,8 @@ static int after_fork(void)
            " sectors are suspect until they are read",
            b->sectors, b->s, b->parts, b->parts == 1 ? "" : "s", b->parts == 1 ? "" : "s", b->first_number, b->first_number + b->parts - 1,
            suspects_count());
+    if (overwrite_lost)
+        notice("overwrite-lost=true: lost sectors are given up where they are written; take it away when that is done");
     if (scrub && scrub_start(&disk, mend) < 0) {
         nbdkit_error("the scrub cannot be started: there is no memory or no thread for it");
         return -1;
@@ -88,10 +98,14 @@ static int after_fork(void)
 static void cleanup(void)
 {
     scrub_stop();
-    notice("stopped: %" PRIu64 " of %" PRIu64 " sectors are suspect", suspects_count(), disk.shape.sectors);
+    notice("stopped: %" PRIu64 " of %" PRIu64 " sectors are suspect: not read since the start, or not found whole", suspects_count(),
+           disk.shape.sectors);
 }
 
 /* ---- requests */
+
+/* What a connection is known by: with nbdkit -r its reads mend nothing. */
+static char readonly_connection, connection;
 
 static struct range sectors_of(uint64_t offset, uint32_t count)
 {
@@ -114,12 +128,13 @@ static int answer_pread(void *handle, void *buffer, uint32_t count, uint64_t off
     struct run run;
     size_t length;
     int result = 0;
-    (void)handle, (void)flags;
+    bool mended;
+    (void)flags;
     range_enter(&range);
     for (uint8_t *to = buffer; count && result == 0; to += length, offset += length, count -= (uint32_t)length) {
         result = next_run(&run, offset, count, &length);
         if (result == 0)
-            result = sectors_read(&run, mend);
+            result = sectors_read(&run, mend && handle != &readonly_connection, &mended);
         if (result == 0)
             memcpy(to, run.plain + offset % disk.shape.s, length);
     }
@@ -157,8 +172,7 @@ static int answer_flush(void *handle, uint32_t flags)
 
 static void *open_connection(int readonly)
 {
-    (void)readonly;
-    return NBDKIT_HANDLE_NOT_NEEDED;
+    return readonly ? &readonly_connection : &connection;
 }
 
 static int64_t get_size(void *handle)

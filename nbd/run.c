@@ -45,7 +45,7 @@ static size_t most_sectors(const struct disk *disk)
 
 static struct window *make_window(const struct disk *disk)
 {
-    const size_t n = disk->shape.part_sectors, s = disk->shape.s, most = most_sectors(disk);
+    const size_t n = disk_part_sectors(disk, 0), s = disk->shape.s, most = most_sectors(disk);
     const size_t lengths[PIECES] = {n * s, n * MIRROR_TAG_BYTES, n * s, most * s, most, MIRROR_MAP_WORDS(n) * sizeof(uint64_t)};
     struct window *window = calloc(1, sizeof *window);
     for (int i = 0; window && i < PIECES; i++) {
@@ -56,6 +56,8 @@ static struct window *make_window(const struct disk *disk)
         }
         window->piece[i] = at;
         window->length[i] = lengths[i];
+        /* A huge page for each sector at hand would be 2 MiB for 4 KiB. */
+        (void)madvise(at, lengths[i], MADV_NOHUGEPAGE);
     }
     return window;
 }

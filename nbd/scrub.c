@@ -12,16 +12,20 @@
 #include <stdlib.h>
 #include <time.h>
 
-/* The most bytes that are read before the requests that wait get their turn, and the seconds between two lines of progress. */
-enum { SCRUB_BYTES = 256 << 10, SECONDS = 2 };
+/* Sectors are read by blocks, at most so many bytes before the requests that wait get their turn. A block has whole pages of tags, so that
+ * one that the medium does not give can be written anew: of a page that is written in part the kernel would have to read the rest. */
+enum { BLOCK_BYTES = 1 << 20, PAGE_TAGS = 4096 / MIRROR_TAG_BYTES };
+
+enum { SECONDS = 2 }; /* between two lines of progress */
 
 static struct {
     const struct disk *disk;
     bool mend, runs;
     pthread_t thread;
     atomic_bool ends;
-    uint64_t *seen; /* a bit a sector: it has been read by this thread */
-    uint64_t read, doubtful, refused;
+    uint64_t block;   /* the sectors of a block */
+    uint8_t *is_read; /* for each block */
+    uint64_t read, doubtful, mended, refused;
     double began, said;
 } scrub;
 
@@ -30,13 +34,6 @@ static double now(void)
     struct timespec t;
     clock_gettime(CLOCK_MONOTONIC, &t);
     return (double)t.tv_sec + (double)t.tv_nsec / 1e9;
-}
-
-static bool is_due(uint64_t sector, bool suspects_only)
-{
-    const uint64_t part = sector / scrub.disk->shape.part_sectors;
-    const bool seen = scrub.seen[sector / 64] >> sector % 64 & 1;
-    return !seen && (!suspects_only || suspects_has(part, (size_t)(sector - disk_part_first(scrub.disk, part))));
 }
 
 static void say_progress(void)
@@ -50,45 +47,50 @@ static void say_progress(void)
            scrub.disk->shape.sectors, suspects_count(), rate, rate > 0 ? (double)left / rate : 0);
 }
 
-/* Reads `count` sectors that are due, with the requests on them kept away. */
-static void read_sectors(uint64_t first, size_t count)
+/* Counts what a run has shown. */
+static void count(const struct run *run, bool mended)
 {
-    struct range range = {.first = first, .count = count};
-    struct run run;
-    range_enter(&range);
-    disk_forget(scrub.disk, first, count);
-    if (run_fetch(&run, scrub.disk, first, count) == 0) {
-        (void)sectors_read(&run, scrub.mend);
-        for (size_t i = 0; i < count; i++) {
-            if (mirror_is_refusal(run.found[i]))
-                scrub.refused++;
-            else if (run.found[i] != MIRROR_WHOLE)
-                scrub.doubtful++;
+    for (size_t i = 0; i < run->count; i++)
+        if (mirror_is_refusal(run->found[i])) {
+            scrub.refused++;
+        } else if (run->found[i] != MIRROR_WHOLE) {
+            scrub.doubtful++;
+            scrub.mended += mended;
         }
-    }
-    range_leave(&range);
-    for (uint64_t sector = first; sector < first + count; sector++)
-        scrub.seen[sector / 64] |= UINT64_C(1) << sector % 64;
-    scrub.read += count;
+    scrub.read += run->count;
 }
 
-/* Reads all sectors that are due, in runs of neighbours. */
+/* Reads a block, with the requests on it kept away. */
+static void read_block(uint64_t first, uint64_t end)
+{
+    struct range range = {.first = first, .count = end - first};
+    range_enter(&range);
+    while (first < end) {
+        const size_t length = run_length(scrub.disk, first, end - first);
+        struct run run;
+        bool mended;
+        disk_forget(scrub.disk, first, length);
+        if (run_fetch(&run, scrub.disk, first, length) == 0) {
+            (void)sectors_read(&run, scrub.mend, &mended);
+            count(&run, mended);
+        }
+        first += length;
+    }
+    range_leave(&range);
+}
+
+/* Reads the blocks that are not read yet: all of them, or those with a suspect. */
 static void pass(bool suspects_only)
 {
     const uint64_t sectors = scrub.disk->shape.sectors;
-    const size_t most = SCRUB_BYTES / scrub.disk->shape.s;
-    for (uint64_t first = 0; first < sectors && !scrub.ends;) {
-        uint64_t end = first;
-        while (end < sectors && end - first < most && is_due(end, suspects_only))
-            end++;
-        if (end > first) {
-            const size_t count = run_length(scrub.disk, first, end - first);
-            read_sectors(first, count);
-            first += count;
-            say_progress();
-        } else {
-            first++;
-        }
+    for (uint64_t first = 0; first < sectors && !scrub.ends; first += scrub.block) {
+        const uint64_t end = sectors - first < scrub.block ? sectors : first + scrub.block;
+        uint8_t *is_read = &scrub.is_read[first / scrub.block];
+        if (*is_read || (suspects_only && !suspects_among(first, end)))
+            continue;
+        read_block(first, end);
+        *is_read = 1;
+        say_progress();
     }
 }
 
@@ -98,19 +100,21 @@ static void *work(void *unused)
     scrub.began = scrub.said = now();
     pass(true);
     pass(false);
-    notice("scrub: %s: %" PRIu64 " of %" PRIu64 " sectors read, %" PRIu64 " doubtful%s, %" PRIu64 " lost or clashing, %" PRIu64
-           " suspect now",
-           scrub.ends ? "stopped" : "done", scrub.read, scrub.disk->shape.sectors, scrub.doubtful, scrub.mend ? " and mended" : "",
-           scrub.refused, suspects_count());
+    notice("scrub: %s: %" PRIu64 " of %" PRIu64 " sectors read, %" PRIu64 " doubtful, %" PRIu64 " mended, %" PRIu64
+           " lost or clashing, %" PRIu64 " suspect now",
+           scrub.ends ? "stopped" : "done", scrub.read, scrub.disk->shape.sectors, scrub.doubtful, scrub.mended, scrub.refused,
+           suspects_count());
     return NULL;
 }
 
 int scrub_start(const struct disk *disk, bool mend)
 {
+    const uint64_t pages = BLOCK_BYTES / disk->shape.s / PAGE_TAGS;
     scrub.disk = disk;
     scrub.mend = mend;
-    scrub.seen = calloc(disk->shape.sectors / 64 + 1, sizeof *scrub.seen);
-    scrub.runs = scrub.seen && pthread_create(&scrub.thread, NULL, work, NULL) == 0;
+    scrub.block = (pages ? pages : 1) * PAGE_TAGS;
+    scrub.is_read = calloc((disk->shape.sectors - 1) / scrub.block + 1, 1);
+    scrub.runs = scrub.is_read && pthread_create(&scrub.thread, NULL, work, NULL) == 0;
     return scrub.runs ? 0 : -1;
 }
 

@@ -1,9 +1,12 @@
 /* THE ORDER OF LANDING, all of it, is in this file. It is what the library's promise about power cuts asks of its caller (mirror.h, POWER
  * CUTS): a call is finished only when what it wrote is on the medium, and the next call on its sector comes after that.
  *
- *   a mend    the mended places of the run's sectors are written out and flushed. Nothing else is done on these sectors before that.
- *   a write   what is doubtful is mended, as above. Then for all sectors of the run: first stage, local written out, flushed; second
- *             stage, tags written out, flushed; third stage, remote written out, flushed. Only then is the write acknowledged.
+ *   a mend      the mended places of the run's sectors are written out and flushed. Nothing else is done on these sectors before that.
+ *   a write     what is doubtful is mended, as above. Then for all sectors of the run: first stage, local written out, flushed; second
+ *               stage, tags written out, flushed; third stage, remote written out, flushed. Only then is the write acknowledged.
+ *   giving up   a lost sector that is to be overwritten is blanked and has the three stages in the window, and only then goes out, all
+ *               three places, and is flushed. On the medium that is a blank that is cut, which leaves it lost, or it has the new
+ *               plaintext: the zeros of the blank are never there for a reader to take for data.
  *
  * Of a run each sector has at most one call that is not finished. Where writing out fails, what did go out is flushed all the same, so that
  * what the kernel shows to the next reader is what the medium has: it is a cut in that call. If flushing fails nothing more is written.
@@ -22,11 +25,17 @@
 struct written {
     bool place[PLACES];
     bool failed;
+    bool refused; /* nothing was written, since a sector cannot be: what the calls made in the window is dropped */
 };
 
 static bool is_doubtful(uint32_t answer)
 {
     return answer >= MIRROR_DOUBTFUL_LOCAL && answer <= MIRROR_DOUBTFUL_REMOTE;
+}
+
+static bool is_lost(uint32_t answer)
+{
+    return answer == MIRROR_REFUSED_LOST;
 }
 
 static bool is_refusal(uint32_t answer)
@@ -95,51 +104,60 @@ static int land(struct written *written)
     return written->failed ? -1 : 0;
 }
 
-/* The map gets what the calls have put into the window's. Where writing out failed nothing is known of these sectors, and where flushing
- * failed of none. */
+/* The map gets what the calls have put into the window's. Where that was dropped, only those are suspect that were not whole; where writing
+ * out failed nothing is known of these sectors, and where flushing failed of none. */
 static void settle_map(const struct run *run, const struct written *written)
 {
     if (disk_is_stopped())
         suspects_give_up();
     else if (written->failed)
         suspects_set(run->part, run->first, run->count);
+    else if (written->refused)
+        for (size_t i = 0; i < run->count; i++)
+            suspects_set(run->part, run->first + i, run->found[i] != MIRROR_DONE);
     else
         suspects_take(run->part, run->first, run->count, run->volume.map);
 }
 
 /* ---- reading and mending */
 
-/* Mends the sectors that a read has found doubtful. */
-static void mend_found(const struct run *run, struct written *written)
+/* Writes out what was made whole in the window: of the doubtful sectors the place that was mended, and of the lost ones, where they were
+ * given up, all places; neighbours in one write. Then flushes it. */
+static int write_found(const struct run *run, bool given_up, struct written *written)
 {
     for (size_t i = 0, end; i < run->count; i = end) {
+        const uint32_t found = run->found[i];
         end = same_until(run, i);
-        if (!is_doubtful(run->found[i]))
-            continue;
-        for (size_t j = i; j < end; j++) {
-            const uint32_t answer = mirror_volume_mend(&run->volume, run->first + j);
-            if (answer != run->found[j])
-                written->failed = refused(run, j, answer) < 0;
-        }
-        write_out(run, (int)(run->found[i] - MIRROR_DOUBTFUL_LOCAL), i, end - i, written);
+        for (int place = 0; place < PLACES; place++)
+            if (found == MIRROR_DOUBTFUL_LOCAL + (uint32_t)place || (found == MIRROR_REFUSED_LOST && given_up))
+                write_out(run, place, i, end - i, written);
     }
-    (void)land(written);
+    return land(written);
 }
 
-int sectors_read(const struct run *run, bool mend)
+/* Mends the sectors that a read has found doubtful. */
+static int mend_found(const struct run *run, struct written *written)
+{
+    for (size_t i = 0; i < run->count && !written->failed; i++)
+        if (is_doubtful(run->found[i]))
+            /* proved of the library: it answers as the read did */
+            written->failed = mirror_volume_mend(&run->volume, run->first + i) != run->found[i];
+    return written->failed ? -1 : write_found(run, false, written);
+}
+
+int sectors_read(const struct run *run, bool mend, bool *mended)
 {
     struct written written = {.failed = false};
     const size_t s = run->volume.s;
-    const bool mends = mend && !disk_is_stopped();
     size_t doubtful = 0, refusals = 0;
     for (size_t i = 0; i < run->count; i++) {
         run->found[i] = (uint8_t)mirror_volume_read(&run->volume, run->first + i, run->plain + i * s, s);
         doubtful += is_doubtful(run->found[i]);
         refusals += is_refusal(run->found[i]);
     }
-    if (doubtful && mends)
-        mend_found(run, &written);
-    log_found(run, is_doubtful, !mends ? ", left as it is" : written.failed ? ", not mended" : ", mended");
+    const bool mends = doubtful && mend && !disk_is_stopped();
+    *mended = mends && mend_found(run, &written) == 0;
+    log_found(run, is_doubtful, *mended ? ", mended" : mends ? ", not mended" : ", left as it is");
     log_found(run, is_refusal, "");
     settle_map(run, &written);
     if (refusals)
@@ -159,24 +177,39 @@ static uint32_t stage(const struct run *run, int place, size_t i)
                           : mirror_volume_third_stage(&run->volume, number, plain, s);
 }
 
-/* A sector that the first stage has refused is made whole: mended, or blanked if it is lost and may be overwritten. What was found there is
- * kept, and for a blanked one that it was not whole. */
-static int make_whole(const struct run *run, size_t i, bool overwrite_lost, struct written *written)
+/* Blanks a lost sector and writes its new plaintext, all of it in the window. */
+static uint32_t give_up(const struct run *run, size_t i)
 {
-    const uint32_t answer = mirror_volume_mend(&run->volume, run->first + i);
-    if (answer == MIRROR_REFUSED_LOST && overwrite_lost) {
-        const uint32_t blanked = mirror_volume_blank(&run->volume, run->first + i);
-        if (blanked != MIRROR_DONE)
-            return refused(run, i, blanked);
-        for (int place = 0; place < PLACES; place++)
-            write_out(run, place, i, 1, written);
-        log_sectors(run, i, i, "lost, and blanked, since all of it is written anew", "");
-        return 0;
+    uint32_t answer = mirror_volume_blank(&run->volume, run->first + i);
+    for (int place = LOCAL; place < PLACES && answer == MIRROR_DONE; place++)
+        answer = stage(run, place, i);
+    return answer;
+}
+
+/* Makes a sector whole in the window that the first stage has refused. Gives what is in its way, or DONE. */
+static uint32_t make_whole(const struct run *run, size_t i, bool overwrite_lost)
+{
+    if (run->found[i] == MIRROR_REFUSED_STAGE_ORDER)
+        run->found[i] = (uint8_t)mirror_volume_mend(&run->volume, run->first + i);
+    if (is_doubtful(run->found[i]))
+        return MIRROR_DONE;
+    return run->found[i] == MIRROR_REFUSED_LOST && overwrite_lost ? give_up(run, i) : run->found[i];
+}
+
+/* Makes every sector whole on the medium that is not. Where one cannot be, nothing is written. */
+static int make_all_whole(const struct run *run, bool overwrite_lost, struct written *written)
+{
+    int result = 0;
+    for (size_t i = 0; i < run->count; i++) {
+        const uint32_t answer = run->found[i] == MIRROR_DONE ? MIRROR_DONE : make_whole(run, i, overwrite_lost);
+        if (answer != MIRROR_DONE)
+            result = refused(run, i, answer);
     }
-    run->found[i] = (uint8_t)answer;
-    if (!is_doubtful(answer))
-        return refused(run, i, answer);
-    write_out(run, (int)(answer - MIRROR_DOUBTFUL_LOCAL), i, 1, written);
+    written->refused = result < 0;
+    if (result < 0 || write_found(run, overwrite_lost, written) < 0)
+        return -1;
+    log_found(run, is_doubtful, ", mended before it is written");
+    log_found(run, is_lost, ", given up, since all of it is written anew");
     return 0;
 }
 
@@ -184,45 +217,35 @@ static int make_whole(const struct run *run, size_t i, bool overwrite_lost, stru
 static int begin(const struct run *run, bool overwrite_lost, struct written *written)
 {
     size_t unready = 0;
-    int result = 0;
     for (size_t i = 0; i < run->count; i++) {
         run->found[i] = (uint8_t)stage(run, LOCAL, i);
         unready += run->found[i] != MIRROR_DONE;
     }
-    for (size_t i = 0; unready && i < run->count; i++)
-        if (run->found[i] == MIRROR_REFUSED_STAGE_ORDER)
-            result |= make_whole(run, i, overwrite_lost, written);
-        else if (run->found[i] != MIRROR_DONE)
-            result |= refused(run, i, run->found[i]);
-    if (!unready || land(written) < 0 || result < 0)
-        return written->failed ? -1 : result;
-    log_found(run, is_doubtful, ", mended before it is written");
-    for (size_t i = 0; i < run->count; i++)
-        if (run->found[i] != MIRROR_DONE) {
-            const uint32_t answer = stage(run, LOCAL, i);
-            if (answer != MIRROR_DONE)
-                result = refused(run, i, answer);
-        }
-    return result;
+    if (unready && make_all_whole(run, overwrite_lost, written) < 0)
+        return -1;
+    for (size_t i = 0; unready && i < run->count; i++) {
+        const uint32_t answer = run->found[i] == MIRROR_DONE ? MIRROR_DONE : stage(run, LOCAL, i);
+        if (answer != MIRROR_DONE)
+            return refused(run, i, answer);
+    }
+    return 0;
 }
 
 /* The three stages, each of all sectors, written out and flushed before the next. */
-static int write_stages(const struct run *run, bool overwrite_lost, struct written *before)
+static int write_stages(const struct run *run, bool overwrite_lost, struct written *written)
 {
-    if (begin(run, overwrite_lost, before) < 0)
+    if (begin(run, overwrite_lost, written) < 0)
         return -1;
     for (int place = LOCAL; place < PLACES; place++) {
-        struct written written = {.failed = false};
+        *written = (struct written){.failed = false};
         for (size_t i = 0; place != LOCAL && i < run->count; i++) {
             const uint32_t answer = stage(run, place, i);
             if (answer != MIRROR_DONE)
                 return refused(run, i, answer);
         }
-        write_out(run, place, 0, run->count, &written);
-        if (land(&written) < 0) {
-            before->failed = true;
+        write_out(run, place, 0, run->count, written);
+        if (land(written) < 0)
             return -1;
-        }
     }
     return 0;
 }

@@ -40,13 +40,19 @@ static bool is_zero(const uint8_t *from, const uint8_t *end)
     return true;
 }
 
+bool superblock_is_there(const uint8_t bytes[SUPERBLOCK_BYTES])
+{
+    return memcmp(bytes, "DCMIRROR", 8) == 0;
+}
+
 const char *superblock_decode(const uint8_t bytes[SUPERBLOCK_BYTES], struct superblock *to)
 {
-    if (memcmp(bytes, "DCMIRROR", 8) != 0)
-        return "has no superblock: it is no file of a disk, or making the disk was cut (then remove its files and make it again), or the "
-               "superblock is damaged (then move the file away, and mirror-volume replace makes it anew from the other two)";
+    if (!superblock_is_there(bytes))
+        return "has no superblock, and another of the three files has one: see the name; if it is the disk's file, move it away, keep it, "
+               "and go by mirror-volume replace, which makes a new one and says how the old one's places are put back";
     if (little_endian(bytes + CRC_AT, 4) != crc32(bytes, CRC_AT))
-        return "has a damaged superblock: move the file away, and mirror-volume replace makes it anew from the other two";
+        return "has a damaged superblock: move the file away, keep it, and go by mirror-volume replace, which makes a new one and says how "
+               "the old one's places are put back";
     if (little_endian(bytes + 8, 4) != VERSION)
         return "is of another version of the format: serve it with the release that made it";
     to->role = (uint32_t)little_endian(bytes + 12, 4);

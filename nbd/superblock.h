@@ -21,6 +21,9 @@ struct superblock {
     uint64_t first_number; /* the volume's number of part 0 */
 };
 
+/* Whether the bytes begin as a superblock does. */
+bool superblock_is_there(const uint8_t bytes[SUPERBLOCK_BYTES]);
+
 /* Takes the fields from their bytes. NULL, or what is wrong with the bytes. */
 const char *superblock_decode(const uint8_t bytes[SUPERBLOCK_BYTES], struct superblock *to);
 

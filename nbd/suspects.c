@@ -8,6 +8,7 @@
 static const struct disk *disk;
 static pthread_mutex_t mutex = PTHREAD_MUTEX_INITIALIZER;
 static uint64_t *maps; /* of all parts, one behind the other */
+static bool given_up;  /* a flush has failed */
 
 static uint64_t *map_of(uint64_t part)
 {
@@ -39,7 +40,6 @@ int suspects_start(const struct disk *of)
 
 void suspects_give_up(void)
 {
-    static bool given_up;
     pthread_mutex_lock(&mutex);
     if (!given_up)
         (void)start_all(); /* the same numbers were accepted at the start */
@@ -58,7 +58,7 @@ void suspects_bring(uint64_t part, size_t first, size_t count, uint64_t *map)
 void suspects_take(uint64_t part, size_t first, size_t count, const uint64_t *map)
 {
     pthread_mutex_lock(&mutex);
-    for (size_t number = first; number < first + count; number++)
+    for (size_t number = first; number < first + count && !given_up; number++)
         put_bit(map_of(part), number, mirror_is_suspect(map, number));
     pthread_mutex_unlock(&mutex);
 }
@@ -71,12 +71,16 @@ void suspects_set(uint64_t part, size_t first, size_t count)
     pthread_mutex_unlock(&mutex);
 }
 
-bool suspects_has(uint64_t part, size_t number)
+bool suspects_among(uint64_t first, uint64_t end)
 {
+    bool found = false;
     pthread_mutex_lock(&mutex);
-    const bool is = mirror_is_suspect(map_of(part), number);
+    for (uint64_t sector = first; sector < end && !found; sector++) {
+        const uint64_t part = sector / disk->shape.part_sectors;
+        found = mirror_is_suspect(map_of(part), (size_t)(sector - disk_part_first(disk, part)));
+    }
     pthread_mutex_unlock(&mutex);
-    return is;
+    return found;
 }
 
 uint64_t suspects_count(void)
