@@ -5,8 +5,8 @@
  *   a write     what is doubtful is mended, as above. Then for all sectors of the run: first stage, local written out, flushed; second
  *               stage, tags written out, flushed; third stage, remote written out, flushed. Only then is the write acknowledged.
  *   giving up   a lost sector that is to be overwritten is blanked and has the three stages in the window, and only then goes out, all
- *               three places, and is flushed. On the medium that is a blank that is cut, which leaves it lost, or it has the new
- *               plaintext: the zeros of the blank are never there for a reader to take for data.
+ *               three places, and is flushed. A cut in that leaves it lost, as it was, or with the new plaintext: the zeros of the blank
+ *               are never there for a reader to take for data.
  *
  * Of a run each sector has at most one call that is not finished. Where writing out fails, what did go out is flushed all the same, so that
  * what the kernel shows to the next reader is what the medium has: it is a cut in that call. If flushing fails nothing more is written.
