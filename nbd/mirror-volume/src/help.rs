@@ -111,7 +111,7 @@ mirror-volume write V sector=X [overwrite-lost=true]
 Reads standard input, a whole number of sectors, and when it has all of it writes
 them from sector X on: three stages, a flush after each. Doubtful sectors are
 mended before. If one of the sectors is lost or clashing nothing is written, and
-the exit status is 2; with overwrite-lost=true lost ones are blanked and written.
+the exit status is 2; with overwrite-lost=true lost ones are given up and written.
 After a power cut, or where it is killed, each sector has the old data or the
 new: look at it with status, mend, and write again.
 ";

@@ -51,7 +51,7 @@ fn written(first: u64, found: &Report) -> String {
     );
     for (count, what) in [
         (found.doubtful, "doubtful, and mended"),
-        (found.lost, "lost, and blanked"),
+        (found.lost, "lost, and given up"),
     ] {
         if count > 0 {
             text.push_str(&format!("before that, {what}: {}\n", sectors(count)));
@@ -137,7 +137,7 @@ fn write_all(
         let plaintexts: Vec<&[u8]> = input.by_ref().take(numbers.len()).collect();
         let mut window = Window::new(disk, part)?;
         window.load(numbers.clone());
-        prepare(&mut window, numbers.clone(), overwrite_lost)?;
+        prepare(&mut window, numbers.clone(), &plaintexts, overwrite_lost)?;
         write(&mut window, numbers.clone(), &plaintexts)?;
         progress.add(numbers.len() as u64);
     }
@@ -145,14 +145,15 @@ fn write_all(
 }
 
 /// Makes loaded sectors whole, which the first stage asks for: mends the doubtful
-/// and blanks the lost. What was written is on the medium when it answers.
+/// and gives the lost up. What was written is on the medium when it answers.
 fn prepare(
     window: &mut Window,
     numbers: Range<usize>,
+    plaintexts: &[&[u8]],
     overwrite_lost: bool,
 ) -> Result<(), Failure> {
     let mut touched = Touched::default();
-    for number in numbers {
+    for (number, plaintext) in numbers.zip(plaintexts) {
         let roles: &[Role] = match judge(window, number)? {
             None => &[],
             Some(Kind::Doubtful(place)) => {
@@ -160,7 +161,7 @@ fn prepare(
                 &[Role::from(place)]
             }
             Some(Kind::Lost) if overwrite_lost => {
-                window.volume.blank(number)?;
+                give_up(window, number, plaintext)?;
                 &Role::ALL
             }
             Some(kind) => return Err(changed(window.sector_of(number), kind)),
@@ -171,6 +172,26 @@ fn prepare(
         }
     }
     window.flush(touched)
+}
+
+/// Blanks a lost sector and writes its new plaintext, all in memory. Both go out
+/// together, so that a power cut leaves it lost or with its new plaintext: the zeros
+/// of a blank would be taken for data.
+fn give_up(window: &mut Window, number: usize, plaintext: &[u8]) -> Result<(), Failure> {
+    window.volume.blank(number)?;
+    Role::ALL
+        .into_iter()
+        .try_for_each(|role| stage(window, role, number, plaintext))
+}
+
+/// The stage of a write that writes the place in this file, in memory.
+fn stage(window: &mut Window, role: Role, number: usize, plaintext: &[u8]) -> Result<(), Failure> {
+    match role {
+        Role::Local => window.volume.first_stage(number, plaintext)?,
+        Role::Tags => window.volume.second_stage(number, plaintext)?,
+        Role::Remote => window.volume.third_stage(number, plaintext)?,
+    }
+    Ok(())
 }
 
 /// A sector was judged before anything was written, and is another one now.
@@ -185,11 +206,7 @@ fn changed(sector: u64, kind: Kind) -> Failure {
 fn write(window: &mut Window, numbers: Range<usize>, plaintexts: &[&[u8]]) -> Result<(), Failure> {
     for role in Role::ALL {
         for (number, plaintext) in numbers.clone().zip(plaintexts) {
-            match role {
-                Role::Local => window.volume.first_stage(number, plaintext)?,
-                Role::Tags => window.volume.second_stage(number, plaintext)?,
-                Role::Remote => window.volume.third_stage(number, plaintext)?,
-            }
+            stage(window, role, number, plaintext)?;
         }
         window.write_out(role, numbers.clone())?;
         let mut touched = Touched::default();

@@ -372,7 +372,7 @@ fn a_lost_sector_is_overwritten_only_if_asked() {
     assert!(run.errors.contains("overwrite-lost=true"), "{run:?}");
     assert!(before == files(), "nothing was to be written");
     let run = folder.run_with_input("write", &["sector=2", "overwrite-lost=true"], &data);
-    run.ends_with(0, &["wrote 30 sectors", "lost, and blanked: 1 sector\n"]);
+    run.ends_with(0, &["wrote 30 sectors", "lost, and given up: 1 sector\n"]);
     assert_eq!(folder.run("read", &["sector=2", "count=30"]).bytes, data);
     assert_eq!(folder.status().status, 0);
 }

@@ -175,7 +175,7 @@ fn a_cut_in_a_write_leaves_the_old_data_or_the_new() {
 }
 
 #[test]
-fn a_cut_while_lost_sectors_are_overwritten_harms_no_other() {
+fn a_cut_while_a_lost_sector_is_given_up_leaves_it_lost_or_new() {
     let (folder, old) = damaged_disk();
     folder.damage_place("local", 12);
     let (before, new) = (files(&folder), vec![9; 20 * 512]);
@@ -183,6 +183,8 @@ fn a_cut_while_lost_sectors_are_overwritten_harms_no_other() {
     let (run, events) = recorded(&folder, &words, &new);
     assert_eq!(run.status, 0, "{run:?}");
     cut_everywhere(&folder, &before, &events, |files| {
+        // Never the zeros of a blank, which would be taken for data.
+        assert!(plaintext(files, 12).is_none_or(|found| found == new[..512]));
         for number in (0..SECTORS).filter(|&number| number != 12) {
             let found = plaintext(files, number).expect("no other sector is lost");
             let is_new = (10..30).contains(&number) && found == new[..512];
