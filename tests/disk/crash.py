@@ -187,7 +187,7 @@ class Trial:
         if self.kind == 'kill':
             self.life(None, True, everything, left)
         elif self.kind == 'cut':
-            self.life(self.cut_env(self.rnd.choice([20, 250])), False, everything, left)
+            self.life(self.cut_env(self.rnd.choice([20, 250, 250])), False, everything, left)
         else:
             more = {'CUT_LOG': self.disk.path('unsynced')}
             self.life({'CUT_AT': '0', 'SYNC_US': '300', **more}, True, everything)
