@@ -89,6 +89,27 @@ def one_place(rnd):
     disk.remove()
 
 
+def neighbours(rnd):
+    """Requests over several sectors and parts, from anywhere to anywhere, with neighbours damaged alike and not alike: all of them are
+    mended in the files."""
+    disk, data = new_disk(rnd)
+    with serving(disk) as (server, client):
+        for first, count in ((5, 3), (5, 15), (5, 16), (10, 20), (19, 2), (19, 42), (39, 25), (0, SECTORS)):
+            fresh = [rnd.randbytes(disk.s) for _ in range(count)]
+            equal(f'{count} sectors to {first}', client.write(first, b''.join(fresh)), None)
+            data[first:first + count] = fresh
+            before = disk.state()
+            for x in range(first, first + count):
+                disk.harm(rnd, rnd.choice(PLACES) if x % 20 > 10 else PLACES[x // 20 % 3], x)
+            server.said()
+            equal(f'{count} sectors from {first}', client.read(first, count), b''.join(fresh))
+            equal('what is mended', sorted(named(server.said(), 'doubtful at ')), list(range(first, first + count)))
+            due(disk.state() == before, 'not all neighbours are mended')
+        all_right(disk, client, data)
+    whole_after(disk)
+    disk.remove()
+
+
 def not_mending(rnd):
     """mend=false: the data is given, and the file's bytes stay as they are; a write makes the sector whole all the same."""
     disk, data = new_disk(rnd)
@@ -299,10 +320,11 @@ def patched(superblock, at, form, value):
 
 
 def wrong_numbers(rnd):
-    """Another first number in the superblocks, with the CRC made right: the key check finds it. So it does other sizes and parts."""
+    """Another first number or UUID in the superblocks, with the CRC made right: the key check finds it. And numbers that cannot be."""
     disk, _ = new_disk(rnd, number=7)
-    changes = ((56, '<Q', 8, 'the key is not'), (16, '16s', rnd.randbytes(16), 'the key is not'), (100, '<B', 1, ''), (8, '<I', 2, ''),
-               (32, '<I', 8192, ''), (40, '<Q', 0, ''), (48, '<I', 5, ''))
+    changes = ((56, '<Q', 8, 'the key is not'), (16, '16s', rnd.randbytes(16), 'the key is not'), (8, '<I', 2, 'another version'),
+               (100, '<B', 1, 'no disk has'), (32, '<I', 8192, 'no disk has'), (40, '<Q', 0, 'no disk has'), (48, '<I', 5, 'no disk has'),
+               (56, '<Q', (1 << 64) - 3, 'no disk has'))
     for at, form, value, words in changes:
         for place, old in zip(PLACES, disk.superblocks):
             disk.put(place, 0, patched(old, at, form, value))
@@ -368,10 +390,11 @@ def wrong_files(rnd):
         os.truncate(mine, length + 1)
         refused(disk, 'bytes')
         os.truncate(mine, length)
-        for at in (0, 40, 3000, 4077, 4090):
+        for at, words in ((0, 'no superblock'), (40, 'damaged superblock'), (3000, 'damaged superblock'), (4077, 'damaged superblock'),
+                          (4090, 'the key is not')):
             old = disk.bytes_of(place)[at:at + 1]
             disk.put(place, at, bytes([old[0] ^ 1]))
-            refused(disk, f'{place}=')
+            refused(disk, words)
             disk.put(place, at, old)
     with serving(disk) as (_, client):
         all_right(disk, client, data)
@@ -418,7 +441,7 @@ def made_anew(disk, place):
 
 
 def replaced(rnd):
-    """Each file lost and made anew: a server with scrub=true mends all of it beside its clients."""
+    """Each file lost and made anew: a server with scrub=true mends all of it, though no client reads."""
     for place in PLACES:
         disk, data = new_disk(rnd)
         old = made_anew(disk, place)
@@ -426,11 +449,12 @@ def replaced(rnd):
         disk.put(place, SUPERBLOCK, bytes(len(old) - SUPERBLOCK))
         equal('status', disk.tool('status').returncode, 1)
         with serving(disk, 'scrub=true') as (server, client):
+            has('the scrub', server.waits_for('scrub: done'), f'{SECTORS} of {SECTORS} sectors read, {SECTORS} doubtful and mended',
+                ' 0 suspect now')
+            due(disk.bytes_of(place) == old, 'the mended file is not what it was')
             all_right(disk, client, data)
-            has('the scrub', server.waits_for('scrub: done'), f'{SECTORS} of {SECTORS} sectors read', ' 0 suspect now')
             server.stop()
             has('the end', server.said(), f'stopped: 0 of {SECTORS}')
-        due(disk.bytes_of(place) == old, 'the mended file is not what it was')
         whole_after(disk)
         disk.remove()
 
@@ -564,6 +588,32 @@ def failing_writes(rnd):
     disk.remove()
 
 
+def failing_mends(rnd):
+    """A mend that the medium refuses: the data is given all the same, the log says that it is not mended, and a later read mends it."""
+    disk, data = new_disk(rnd)
+    for place in PLACES:
+        disk.harm(rnd, place, 21)
+        with serving(disk, env={'FAIL_WRITE_AT': '1'}) as (server, client):
+            equal('a read whose mend fails', client.read(20, 3), b''.join(data[20:23]))
+            equal('the log', named(server.said(), f'doubtful at {WORDS[place]}, not mended'), [21])
+            equal('the next read', client.read(21), data[21])
+            equal('the log', named(server.said(), f'doubtful at {WORDS[place]}, mended'), [21])
+            equal('a write', client.write(21, data[21]), None)
+        disk.harm(rnd, place, 22)
+        with serving(disk, env={'FAIL_SYNC_AT': '4'}) as (server, client):
+            equal('a read whose mend is not synced', client.read(22), data[22])
+            equal('the log', named(server.said(), f'doubtful at {WORDS[place]}, not mended'), [22])
+            disk.harm(rnd, place, 23)
+            before = disk.state()
+            equal('a write after that', client.write(30, data[30]), 'EIO')
+            all_right(disk, client, data)
+            due(disk.state() == before, 'after a failed sync something was written')
+        with serving(disk) as (_, client):
+            all_right(disk, client, data)
+    whole_after(disk)
+    disk.remove()
+
+
 # ---- several clients at once
 
 
@@ -592,9 +642,9 @@ def quarters(rnd):
     disk.remove()
 
 
-CASES = (one_place, not_mending, writes_over_one, unreadable, cut_short, two_places, lost_stay, overwriting, clashing, wrong_keys,
-         wrong_numbers, other_disks_superblocks, wrong_files, one_at_a_time, replaced, slow_scrub,
-         scrub_alone, tool_and_server, suspects, failing_syncs, failing_writes, quarters)
+CASES = (one_place, neighbours, not_mending, writes_over_one, unreadable, cut_short, two_places, lost_stay, overwriting, clashing,
+         wrong_keys, wrong_numbers, other_disks_superblocks, wrong_files, one_at_a_time, replaced, slow_scrub, scrub_alone,
+         tool_and_server, suspects, failing_syncs, failing_writes, failing_mends, quarters)
 
 
 def main(seed, *names):
