@@ -82,7 +82,7 @@ class Stream:
         """Whether no other request is there, and whether what is beside the bytes, in their sectors, is known."""
         s = self.journal.s
         first, last = start // s, (end - 1) // s
-        if any(first < a + len(contents) and a <= last for a, contents in self.flying.values()):
+        if any(first < a + len(contents) and a <= last for a, contents, _ in self.flying.values()):
             return False
         edges = ([first] if start % s else []) + ([last] if end % s else [])
         return all(len(self.journal.may[x]) == 1 for x in edges)
@@ -92,14 +92,26 @@ class Stream:
             start, end = self.pick()
             if start >= end or not self.free(start, end):
                 continue
-            if self.rnd.random() < 0.1:
+            kind = self.rnd.random()
+            if kind < 0.15 and self.known(start, end):
+                self.send_read(start, end)
+            elif kind < 0.25:
                 sent = self.journal.send(start, bytes(end - start))
-                cookie = self.handle.aio_zero(end - start, start)
+                self.flying[self.handle.aio_zero(end - start, start)] = (*sent, None)
             else:
                 data = self.rnd.randbytes(end - start)
                 sent = self.journal.send(start, data)
-                cookie = self.handle.aio_pwrite(nbd.Buffer.from_bytearray(bytearray(data)), start)
-            self.flying[cookie] = sent
+                self.flying[self.handle.aio_pwrite(nbd.Buffer.from_bytearray(bytearray(data)), start)] = (*sent, None)
+
+    def known(self, start, end):
+        """Whether these are whole sectors of which each can hold one content only."""
+        s = self.journal.s
+        return start % s == end % s == 0 and all(len(self.journal.may[x]) == 1 for x in range(start // s, end // s))
+
+    def send_read(self, start, end):
+        s, buffer = self.journal.s, nbd.Buffer(end - start)
+        contents = [next(iter(self.journal.may[x])) for x in range(start // s, end // s)]
+        self.flying[self.handle.aio_pread(buffer, start)] = (start // s, contents, buffer)
 
     def collect(self):
         """Waits for answers, and notes them: those too that came just before the end."""
@@ -107,14 +119,17 @@ class Stream:
             self.handle.poll(50)
         except nbd.Error:
             pass
-        for cookie, sent in list(self.flying.items()):
+        for cookie, (first, contents, buffer) in list(self.flying.items()):
             try:
                 if not self.handle.aio_command_completed(cookie):
                     continue
             except nbd.Error as error:
-                due(error.errno != 'EIO', f'a write to sector {sent[0]} is refused', Lost)
+                due(error.errno != 'EIO', f'a request to sector {first} is refused', Lost)
             else:
-                self.journal.acknowledge(*sent)
+                if buffer is None:
+                    self.journal.acknowledge(first, contents)
+                else:
+                    due(bytes(buffer.to_bytearray()) == b''.join(contents), f'a read of sector {first} gives other data', Lost)
             del self.flying[cookie]
 
     def run(self):
