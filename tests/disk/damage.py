@@ -42,7 +42,8 @@ def new_disk(rnd, part=PART, **more):
 @contextlib.contextmanager
 def serving(disk, *options, env=None):
     with disk.serve(*options, env=env) as server:
-        due(server.up, f'the server does not start: {server.said()}')
+        if not server.up:
+            raise Failed(f'the server does not start: {server.said()}')
         yield server, Client(server)
 
 
@@ -126,6 +127,20 @@ def not_mending(rnd):
             equal('a write', client.write(x, data[0]), None)
             equal('what was written', client.read(x), data[0])
     whole_after(disk)
+    disk.remove()
+
+
+def read_only(rnd):
+    """nbdkit -r: as mend=false, and writes are refused."""
+    disk, data = new_disk(rnd)
+    for x, place in enumerate(PLACES, 18):
+        disk.harm(rnd, place, x)
+    before = disk.state()
+    with serving(disk, '-r') as (server, client):
+        all_right(disk, client, data)
+        equal('what is left', sorted(named(server.said(), 'doubtful at ')), [18, 19, 20])
+        equal('a write', client.write(3, data[3]), 'EPERM')
+    due(disk.state() == before, 'with -r a file was changed')
     disk.remove()
 
 
@@ -259,6 +274,29 @@ def overwriting(rnd):
     disk.remove()
 
 
+def overwriting_cut(rnd):
+    """The power goes while a lost sector is written anew, at each write and each sync: it stays lost or is the new one, and no other; the
+    sectors beside it in the same request are the old ones or the new ones."""
+    disk, data = new_disk(rnd)
+    ends = set()
+    for turn in range(36):
+        for place in PAIRS[turn % 3]:
+            disk.harm(rnd, place, 19)
+        fresh = [rnd.randbytes(disk.s) for _ in range(2)]
+        cut = {'CUT_AT': str(4 + turn // 2), 'CUT_SEED': str(rnd.randrange(1 << 30))}
+        with serving(disk, 'overwrite-lost=true', env=cut) as (_, client):
+            done = client.write(18, b''.join(fresh)) is None
+        with serving(disk) as (_, client):
+            beside, got = client.read(18), client.read(19)
+            due(beside == fresh[0] or (not done and beside == data[18]), f'turn {turn}: the sector beside is neither old nor new')
+            due(got == fresh[1] or (not done and got == 'EIO'), f'turn {turn}: the lost sector is neither lost nor new')
+            data[18] = beside
+            ends.add((done, got == 'EIO'))
+            all_right(disk, client, data, but=(19,))
+    equal('all ends have come', ends, {(True, False), (False, False), (False, True)})
+    disk.remove()
+
+
 def clashing(rnd):
     """Two plaintexts with one tag, made by a hash key that is the field's one: then blocks may change places. One's local sector and the
     other's remote sector clash: EIO, whatever is written, and nothing is changed."""
@@ -384,7 +422,7 @@ def wrong_files(rnd):
         os.unlink(mine)
         with disk.serve() as server:
             due(not server.up, 'a server starts without a file')
-            has('the server', server.said(), 'no such file')
+            has('the server', server.said(), 'No such file')
             due(not os.path.exists(mine), 'a server has made a file')
         os.rename(disk.path('kept'), mine)
         os.truncate(mine, length + 1)
@@ -430,13 +468,13 @@ def one_at_a_time(rnd):
 
 
 def made_anew(disk, place):
-    """One of the files is lost, and made anew by the tool; it has the superblock of the old one, and no sector."""
+    """One of the files is lost, and made anew by the tool: it has the superblock of the old one, and zeros in all places."""
     old = disk.bytes_of(place)
     os.unlink(disk.path(place))
     made = disk.tool('replace', f'place={place}')
     due(made.returncode == 0, f'replace: {made.returncode}, {made.stderr}')
     due(disk.bytes_of(place)[:SUPERBLOCK] == old[:SUPERBLOCK], 'replace makes another superblock')
-    equal('the length of the new file', os.path.getsize(disk.path(place)), len(old))
+    due(disk.bytes_of(place)[SUPERBLOCK:] == bytes(len(old) - SUPERBLOCK), 'replace makes something else than zeros')
     return old
 
 
@@ -445,11 +483,9 @@ def replaced(rnd):
     for place in PLACES:
         disk, data = new_disk(rnd)
         old = made_anew(disk, place)
-        equal('status, mended by replace or not yet', disk.tool('status').returncode in (0, 1), True)
-        disk.put(place, SUPERBLOCK, bytes(len(old) - SUPERBLOCK))
         equal('status', disk.tool('status').returncode, 1)
         with serving(disk, 'scrub=true') as (server, client):
-            has('the scrub', server.waits_for('scrub: done'), f'{SECTORS} of {SECTORS} sectors read, {SECTORS} doubtful and mended',
+            has('the scrub', server.waits_for('scrub: done'), f'{SECTORS} of {SECTORS} sectors read, {SECTORS} doubtful, {SECTORS} mended',
                 ' 0 suspect now')
             due(disk.bytes_of(place) == old, 'the mended file is not what it was')
             all_right(disk, client, data)
@@ -461,21 +497,20 @@ def replaced(rnd):
 
 def slow_scrub(rnd):
     """On a slow medium the scrub says how far it is, others read and write beside it, and a stop does not wait for its end."""
-    disk, data = new_disk(rnd, part=1)  # a part has a run of its own, and so a sync
+    disk = Disk(rnd, 1024, part=50)  # each part that is mended takes a sync
     made_anew(disk, 'remote')
-    disk.put('remote', SUPERBLOCK, bytes(SECTORS * disk.s))
-    slow = {'SYNC_US': '110000'}
+    slow, zeros = {'SYNC_US': '300000'}, bytes(disk.s)
     with serving(disk, 'scrub=true', env=slow) as (server, client):
         server.stop()
         has('a scrub that is stopped', server.said(), 'scrub: stopped', 'stopped: ')
     equal('status', disk.tool('status').returncode, 1)
     with serving(disk, 'scrub=true', env=slow) as (server, client):
-        data[60] = rnd.randbytes(disk.s)
-        equal('a write beside the scrub', client.write(60, data[60]), None)
-        equal('a read beside the scrub', client.read(58, 4), b''.join(data[58:62]))
+        data = rnd.randbytes(disk.s)
+        equal('a write beside the scrub', client.write(1000, data), None)
+        equal('a read beside the scrub', client.read(999, 3), zeros + data + zeros)
         heard = server.waits_for('scrub: done')
-        due(re.search(rf'scrub: \d+ of {SECTORS} sectors read, \d+ suspect', heard), f'it says no progress, but: {heard}')
-        all_right(disk, client, data)
+        due(re.search(r'scrub: \d+ of 1024 sectors read, \d+ suspect', heard), f'it says no progress, but: {heard}')
+        equal('all of it', client.read(0, 1024), 1000 * zeros + data + 23 * zeros)
         server.stop()
     whole_after(disk)
     disk.remove()
@@ -489,12 +524,12 @@ def scrub_alone(rnd):
             disk.harm(rnd, place, x)
     before = disk.state()
     with serving(disk, 'scrub=true', 'mend=false') as (server, client):
-        has('the scrub', server.waits_for('scrub: done'), '3 doubtful', '1 lost or clashing', '4 suspect now')
+        has('the scrub', server.waits_for('scrub: done'), '3 doubtful, 0 mended', '1 lost or clashing', '4 suspect now')
         all_right(disk, client, data, but=(63,))
     due(disk.state() == before, 'a scrub with mend=false has changed a file')
     with serving(disk, 'scrub=true') as (server, client):
         heard = server.waits_for('scrub: done')
-        has('the scrub', heard, '3 doubtful and mended', '1 lost or clashing', '1 suspect now')
+        has('the scrub', heard, '3 doubtful, 3 mended', '1 lost or clashing', '1 suspect now')
         for x, place in ((1, 'local'), (30, 'tags'), (40, 'remote')):
             equal(f'what is doubtful at {place}', named(heard, f'doubtful at {WORDS[place]}, mended'), [x])
         equal('what is lost', named(heard, 'lost'), [63])
@@ -546,7 +581,7 @@ def failing_syncs(rnd):
     for k in (1, 2, 3):
         with disk.serve(env={'FAIL_SYNC_AT': str(k)}) as server:
             due(not server.up, f'a server starts though sync {k} has failed')
-            has('the server', server.said(), 'flushing has failed')
+            has('the server', server.said(), 'cannot be flushed')
     for k in (4, 5, 6, 7, 8, 9):
         with serving(disk, env={'FAIL_SYNC_AT': str(k)}) as (server, client):
             fresh = [rnd.randbytes(disk.s) for _ in range(2)]
@@ -642,9 +677,9 @@ def quarters(rnd):
     disk.remove()
 
 
-CASES = (one_place, neighbours, not_mending, writes_over_one, unreadable, cut_short, two_places, lost_stay, overwriting, clashing,
-         wrong_keys, wrong_numbers, other_disks_superblocks, wrong_files, one_at_a_time, replaced, slow_scrub, scrub_alone,
-         tool_and_server, suspects, failing_syncs, failing_writes, failing_mends, quarters)
+CASES = (one_place, neighbours, not_mending, read_only, writes_over_one, unreadable, cut_short, two_places, lost_stay, overwriting,
+         overwriting_cut, clashing, wrong_keys, wrong_numbers, other_disks_superblocks, wrong_files, one_at_a_time, replaced, slow_scrub,
+         scrub_alone, tool_and_server, suspects, failing_syncs, failing_writes, failing_mends, quarters)
 
 
 def main(seed, *names):

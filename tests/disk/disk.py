@@ -127,9 +127,11 @@ class Server:
         for old in (disk.socket, pid):
             if os.path.exists(old):
                 os.unlink(old)
-        command = ['nbdkit', '-f', '--exit-with-parent', '-U', disk.socket, '-P', pid, os.environ['DISK_PLUGIN'], *disk.parameters(key)]
+        flags = [option for option in options if option.startswith('-')]
+        command = ['nbdkit', '-f', '--exit-with-parent', '-U', disk.socket, '-P', pid, *flags, os.environ['DISK_PLUGIN'],
+                   *disk.parameters(key), *(option for option in options if option not in flags)]
         with open(self.log, 'ab') as log:
-            self.process = subprocess.Popen([*command, *options], stderr=log, env=disk.environment(env))
+            self.process = subprocess.Popen(command, stderr=log, env=disk.environment(env))
         # nbdkit writes the file of its number when it listens.
         limit = time.time() + 30
         while not (os.path.exists(pid) and os.path.getsize(pid)) and self.process.poll() is None:
