@@ -236,15 +236,15 @@ def two_places(rnd):
 
 
 def lost_stay(rnd):
-    """Refused writes leave each place of a lost sector as it is."""
+    """Refused writes leave each place of a lost sector as it is, and of the sectors beside it too."""
     disk, data = new_disk(rnd)
-    for place in ('local', 'tags'):
-        disk.harm(rnd, place, 33)
+    for place, x in (('local', 33), ('tags', 33), ('remote', 34)):
+        disk.harm(rnd, place, x)
     before = disk.state()
     for options in ((), ('overwrite-lost=false',), ('mend=false',)):
         with serving(disk, *options) as (_, client):
             for text, got in (('a read', client.read(33)), ('a part', client.write(33, b'part', 7)), ('all', client.write(33, data[0])),
-                              ('zeros', client.zero(33))):
+                              ('all and two beside', client.write(32, b''.join(data[:3]))), ('zeros', client.zero(33))):
                 equal(f'{text} of a lost sector, {options}', got, 'EIO')
     due(disk.state() == before, 'a refused write has changed a file')
     disk.remove()
@@ -262,6 +262,9 @@ def overwriting(rnd):
             before = disk.state()
             equal('a part', client.write(x, b'part', 7), 'EIO')
             due(disk.state() == before, 'a refused write has changed a file')
+        equal('all of 20, and a part of 21', client.write(20, bytes(disk.s + 100)), 'EIO')
+        equal('a part of 20, and all of 21', client.write(20, bytes(disk.s + 100), disk.s - 100), 'EIO')
+        due(disk.state() == before, 'a refused write has changed a file')
         for x in (18, 19, 20):
             data[x] = rnd.randbytes(disk.s)
             equal('all of it', client.write(x, data[x]), None)
