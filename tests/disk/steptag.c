@@ -1,68 +1,108 @@
 /*
- * Why the plugin never maps a disk's files shared: a kill between two instructions of the second stage, at each of them.
- * SPDX-License-Identifier: Apache-2.0
+ * Why a server must not lend the calls a shared mapping of its files (mmap with MAP_SHARED; mirror.h, POWER CUTS): the second stage stores
+ * a tag in several instructions, and a kill between two of them leaves a mixture of the old tag and the new one. A process makes a second
+ * stage on shared memory, as a mapped file would be. This program executes it instruction by instruction (ptrace), and behind each one
+ * reads the sector, as a server would that is started again after a kill there. It counts the instructions behind which the sector reads
+ * lost. It belongs to the documents, and not to the gate: another compiler may store a tag at once. Build and run it from the root of the
+ * source tree, after `rt staticlib mirror`:
  *
- * A child makes the second stage on images that it shares with this process, as with a mapped file, one instruction at a time. Each time
- * that the tag has changed the sector is read here, as a server would that is started after a kill at this moment. It ends with 0 if the
- * sector is lost at one moment or more, and is the new plaintext at the end.
+ *   cc -O2 -Wall -Wextra -Werror -Iinclude tests/disk/steptag.c target/staticlib/libmirror.a -o target/steptag && target/steptag [SIZE]
+ *
+ * SIZE is the bytes of a sector, 512 if it is not given. It ends with 0 if it could look at every instruction, whatever it found.
  */
+#define _GNU_SOURCE
 #include "mirror.h"
 
 #include <signal.h>
 #include <stdio.h>
+#include <stdlib.h>
 #include <string.h>
 #include <sys/mman.h>
 #include <sys/ptrace.h>
 #include <sys/wait.h>
 #include <unistd.h>
 
-enum { S = 512 };
+enum { VOLUME = 1, MOST = MIRROR_SECTOR_BYTES_MAX, ANSWERS = 256 };
+
 static const uint8_t key[MIRROR_KEY_BYTES] = "an example key: h, and then K..";
-static const uint8_t plain[S] = "new";
+static uint8_t plain[MOST] = "the new plaintext";
+static uint64_t map[MIRROR_MAP_WORDS(1)];
 
-static uint32_t read_as_a_new_server(const struct mirror_volume *v, uint8_t out[S])
+static void need(int holds, const char *what)
 {
-    uint64_t map[MIRROR_MAP_WORDS(1)];
-    struct mirror_volume other = *v;
-    other.map = map;
-    return mirror_volume_start_map(&other) == MIRROR_DONE ? mirror_volume_read(&other, 0, out, S) : UINT32_MAX;
+    if (!holds) {
+        fprintf(stderr, "steptag: %s\n", what);
+        exit(1);
+    }
 }
 
-/* The child stops itself, and then makes the second stage. */
-static pid_t start_child(const struct mirror_volume *v)
+/* The process that is stepped through: it stops, makes the second stage, and ends with the call's answer. */
+static void make_second_stage(const struct mirror_volume *v)
 {
-    const pid_t child = fork();
-    if (child != 0) return child;
-    if (ptrace(PTRACE_TRACEME, 0, NULL, NULL) < 0) _exit(100);
-    raise(SIGSTOP);
-    _exit((int)mirror_volume_second_stage(v, 0, plain, S));
+    if (ptrace(PTRACE_TRACEME, 0, NULL, NULL) != 0 || raise(SIGSTOP) != 0)
+        _exit(ANSWERS - 1);
+    _exit((int)mirror_volume_second_stage(v, 0, plain, v->s));
 }
 
-int main(void)
+/* What a server would find that is started now. */
+static uint32_t found(const struct mirror_volume *v)
 {
-    uint8_t *shared = mmap(NULL, 4096, PROT_READ | PROT_WRITE, MAP_SHARED | MAP_ANONYMOUS, -1, 0), tag[MIRROR_TAG_BYTES], out[S];
-    uint64_t map[MIRROR_MAP_WORDS(1)];
-    const struct mirror_volume v = { .key = key, .key_len = sizeof key, .volume = 0, .s = S, .n = 1, .local = shared, .local_len = S,
-                                     .tags = shared + 1024, .tags_len = MIRROR_TAG_BYTES, .remote = shared + 2048, .remote_len = S,
-                                     .map = map, .map_len = MIRROR_MAP_WORDS(1) };
-    long lost = 0, changes = 0, steps = 0;
+    static uint8_t out[MOST];
+    return mirror_volume_read(v, 0, out, v->s);
+}
+
+int main(int argc, char **argv)
+{
+    size_t size = argc > 1 ? strtoul(argv[1], NULL, 10) : 512;
+    need(argc <= 2 && size >= 16 && size <= MOST && size % 16 == 0, "usage: steptag [SIZE], a multiple of 16 from 16 to 4096");
+    need(mirror_version() == MIRROR_VERSION, "the library is of another release than the header");
+
+    uint8_t *shared = mmap(NULL, 3 * MOST, PROT_READ | PROT_WRITE, MAP_SHARED | MAP_ANONYMOUS, -1, 0);
+    need(shared != MAP_FAILED, "no shared memory");
+    struct mirror_volume v = {.key = key, .key_len = sizeof key, .volume = VOLUME, .s = size, .n = 1};
+    v.local = shared, v.local_len = size;
+    v.tags = shared + MOST, v.tags_len = MIRROR_TAG_BYTES;
+    v.remote = shared + 2 * MOST, v.remote_len = size;
+    v.map = map, v.map_len = MIRROR_MAP_WORDS(1);
+    need(mirror_volume_start_map(&v) == MIRROR_DONE && mirror_volume_blank(&v, 0) == MIRROR_DONE &&
+             mirror_volume_first_stage(&v, 0, plain, size) == MIRROR_DONE,
+         "blank or first stage refused");
+
+    pid_t child = fork();
+    need(child >= 0, "no process");
+    if (child == 0)
+        make_second_stage(&v);
+
+    /* The sector is read when the tag has changed. Until the next change it would be read the same. */
+    uint8_t tag[MIRROR_TAG_BYTES];
+    uint32_t answer = found(&v);
+    long tags[ANSWERS] = {0}, instructions[ANSWERS] = {0}, total = 0;
     int status;
-    if (shared == MAP_FAILED || mirror_volume_start_map(&v) || mirror_volume_blank(&v, 0) || mirror_volume_first_stage(&v, 0, plain, S))
-        return 2;
     memcpy(tag, v.tags, sizeof tag);
-    const pid_t child = start_child(&v);
-    while (waitpid(child, &status, 0) == child && WIFSTOPPED(status)) {
+    tags[answer]++;
+    need(waitpid(child, &status, 0) == child && WIFSTOPPED(status), "the process cannot be stopped");
+    for (;;) {
+        need(ptrace(PTRACE_SINGLESTEP, child, NULL, NULL) == 0 && waitpid(child, &status, 0) == child, "the process cannot be stepped");
+        if (!WIFSTOPPED(status))
+            break;
+        need(WSTOPSIG(status) == SIGTRAP, "the process was stopped by a signal");
         if (memcmp(tag, v.tags, sizeof tag) != 0) {
             memcpy(tag, v.tags, sizeof tag);
-            changes++;
-            lost += read_as_a_new_server(&v, out) == MIRROR_REFUSED_LOST;
+            answer = found(&v);
+            need(answer < ANSWERS, "a read gave no answer of the library");
+            tags[answer]++;
         }
-        steps++;
-        if (ptrace(PTRACE_SINGLESTEP, child, NULL, NULL) < 0) return 2;
+        instructions[answer]++;
+        total++;
     }
-    printf("steptag: a second stage in shared memory: %ld steps, the tag changes at %ld of them, and at %ld a kill loses the sector\n",
-           steps, changes, lost);
-    if (!WIFEXITED(status) || WEXITSTATUS(status) != MIRROR_DONE) return 2;
-    if (read_as_a_new_server(&v, out) != MIRROR_DOUBTFUL_REMOTE || memcmp(out, plain, S) != 0) return 2;
-    return lost > 0 ? 0 : 1;
+    need(WIFEXITED(status) && WEXITSTATUS(status) == MIRROR_DONE, "the second stage was not done");
+
+    printf("a second stage on shared memory, of %zu bytes: %ld instructions of the process, until it ends\n", size, total);
+    for (uint32_t i = 0; i < ANSWERS; i++) {
+        const char *text = mirror_text(i);
+        if (tags[i] != 0)
+            printf("  a kill behind %ld of them, with %ld %s in the image, leaves a sector that reads 0x%02x: %.*s\n", instructions[i],
+                   tags[i], tags[i] == 1 ? "tag" : "different tags", (unsigned)i, (int)strcspn(text, ":"), text);
+    }
+    return 0;
 }
