@@ -12,4 +12,3 @@ pub mod Cuts
 pub mod Witness
 pub mod Rules
 pub mod Number
-pub mod RuleNumbers

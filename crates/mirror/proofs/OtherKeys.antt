@@ -17,9 +17,9 @@ use Rattle.verdict.specs.Judging.{verdictOutcome}
 use Rattle.sector.specs.Calls.{openOutcome, openWith, sealCall, judgeCall, openCall, rebuildCall}
 use Rattle.history.specs.Volume.{Call, read, lengths, late, sealing, sector, mirror}
 use Rattle.history.proofs.Options.{some-inj}
-use Rattle.history.proofs.RuleNumbers.{Every, every-first, every-own}
 use Rattle.suspects.specs.Marks.{isFinished, mapOutcome, mapSurveyRefusal, mapSurveyOutcome}
 use Rattle.suspects.specs.Calls.{callOrder}
+use Rattle.suspects.proofs.Marking.{Every, every-first, every-own}
 use Rattle.suspects.proofs.Calls.{map-calls}
 use Rattle.writes.specs.Write.{writeOutcome}
 use Rattle.mirror.specs.Survey.{surveyResult}

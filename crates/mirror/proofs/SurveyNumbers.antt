@@ -13,11 +13,11 @@ use Rattle.history.specs.Answers.{isWhole}
 use Rattle.history.specs.HistoryFrom.{AnyBytes}
 use Rattle.history.specs.Volume.{mirror}
 use Rattle.history.specs.History.{own}
-use Rattle.history.proofs.RuleNumbers.{every-first}
 use Rattle.report.specs.declared.Counts.{Counts}
 use Rattle.report.specs.Survey.{tally, health, countsOf, written, Report, verdictAt, surveyed, surveyOutcome, ByFitting}
 use Rattle.report.proofs.SurveyFacts.{survey-facts}
 use Rattle.suspects.specs.Marks.{mapSurveyRefusal, mapSurveyOutcome}
+use Rattle.suspects.proofs.Marking.{every-first}
 use Rattle.suspects.proofs.Calls.{survey-done, survey-refused, survey-goes-on}
 use Rattle.mirror.specs.Survey.{surveyResult, SurveyNumbers}
 

@@ -2,7 +2,7 @@
 use mathlib.Core.Path.{_≡_, refl, sym, _∙_, ap, subst}
 use mathlib.Core.Logic.{_⊎_, inl, inr}
 use mathlib.Core.Bool.{Bool, true, false, not, cond}
-use mathlib.Core.List.{List, _∷_, _++_}
+use mathlib.Core.List.{List, [], _∷_, _++_}
 use mathlib.Core.Option.{Option, none, some}
 use Prim.Native.Nat.{ℕ, _/_, _<_}
 use native.Mathlib.Decide.{ℕ-discrete}
@@ -15,15 +15,15 @@ use Rattle.bits.proofs.Bits.{bit-mark-same, bit-mark-other, length-mark, words-
 use Rattle.mode.specs.Sealing.{Triple}
 use Rattle.mode.specs.Scheme.{Place, local, tag, remote, Scheme}
 use Rattle.verdict.specs.Judging.{verdictDoubt}
-use Rattle.verdict.specs.Verdict.{judge}
+use Rattle.verdict.specs.Verdict.{Verdict, whole, doubtful, lost, clashing, judge}
 use Rattle.answers.specs.declared.Refusal.{Refusal}
 use Rattle.answers.specs.Answers.{doubtNumber, foundNumber, refusalNumber}
 use Rattle.answers.proofs.Numbers.{refusal-range}
 use Rattle.answers.specs.Rules.{Rule, rule, firstOf, Args, Volume, isShape, mapWords, volumeRules, mapRules, numberRules}
 use Rattle.answers.proofs.Rules.{cond-none, only-rule, none-right}
 use Rattle.history.specs.Answers.{answerNumber}
-use Rattle.history.specs.Volume.{Call, blank, first, second, third, mend, read, lengths, late, result, sector, sealing, mirror}
-use Rattle.history.proofs.RuleNumbers.{Every, every-first, every-both, every-so, every-own}
+use Rattle.history.specs.Volume.{Call, blank, first, second, third, mend, read, Schemes, lengths, judgeRules, late, result, sector, sealing, mirror}
+use Rattle.history.proofs.Options.{none-some}
 use Rattle.suspects.specs.declared.Mark.{Mark}
 use Rattle.suspects.specs.declared.Mark.the-variants.{Clears, Sets, Keeps}
 use Rattle.suspects.specs.Marks.{isFinished, finishing, lostOrClashing, refusing, marks, marked, mapRefusal, firstRules}
@@ -113,6 +113,61 @@ module _ (v : Triple) (a : Args) (m : List ℕ) where
 
   pub room : (x : Mark) → mapRefusal v a m ≡ none → Room x (a .number) (length m)
   room x e = within x (a .number) (length m) (in-map e)
+
+-- ---- the numbers of a list of rules
+
+-- the number of every rule has the property
+abbrev pub Every : (ℕ → Type 0) → List Rule → Type 0
+Every P [] = Unit {0}
+Every P (r ∷ rs) = P (r .number) × Every P rs
+
+module _ (P : ℕ → Type 0) where
+  pub every-first : (rs : List Rule) → Every P rs → (k : ℕ) → firstOf rs ≡ some k → P k
+  every-first [] q k e = absurd (none-some e)
+  every-first (r ∷ rs) q k e = go (r .condition) (every-first rs (q .1) k) e
+    where
+      go : (b : Bool) → (firstOf rs ≡ some k → P k) → cond b (some (r .number)) (firstOf rs) ≡ some k → P k
+      go true h z = let n : r .number ≡ k = cc in subst P n (q .0)
+      go false h z = h z
+
+  pub every-both : (xs ys : List Rule) → Every P xs → Every P ys → Every P (xs ++ ys)
+  every-both [] ys p q = q
+  every-both (x ∷ xs) ys p q = (p .0, every-both xs ys (p .1) q)
+
+  -- Of the rules of `history`, but not there: an edit of `lengths` or `late` would be refused for the shape of a list before the fact that it
+  -- breaks.
+  every-length : (a : Args) (c : Call) → P 3 → Every P (lengths a c)
+  every-length a blank three = tt
+  every-length a (first Q) three = (three, tt)
+  every-length a (second Q) three = (three, tt)
+  every-length a (third Q) three = (three, tt)
+  every-length a mend three = tt
+  every-length a (read o) three = (three, tt)
+
+  every-judged : (w : Verdict) → P 6 → P 7 → Every P (judgeRules w)
+  every-judged (whole Q) six seven = tt
+  every-judged (doubtful d Q) six seven = tt
+  every-judged lost six seven = (six, tt)
+  every-judged clashing six seven = (seven, tt)
+
+  every-late : (S : Scheme) (i : ℕ) (t : Triple) (c : Call) → P 6 → P 7 → P 10 → Every P (late S i t c)
+  every-late S i t blank six seven ten = tt
+  every-late S i t (first Q) six seven ten = (ten, tt)
+  every-late S i t (second Q) six seven ten = (ten, tt)
+  every-late S i t (third Q) six seven ten = (ten, tt)
+  every-late S i t mend six seven ten = every-judged (judge S i t) six seven
+  every-late S i t (read o) six seven ten = every-judged (judge S i t) six seven
+
+  -- what a call refuses behind 9: 3, and at last 6 and 7, or 10
+  pub every-own : (seals : Schemes) (v : Triple) (a : Args) (c : Call) → P 3 → P 6 → P 7 → P 10
+      → Every P (lengths a c ++ late (sealing seals a) (a .number) (sector v a) c)
+  every-own seals v a c three six seven ten =
+      let last : List Rule = late (sealing seals a) (a .number) (sector v a) c in
+      every-both (lengths a c) last (every-length a c three) (every-late (sealing seals a) (a .number) (sector v a) c six seven ten)
+
+every-so : (P Q : ℕ → Type 0) → ((k : ℕ) → P k → Q k) → (rs : List Rule) → Every P rs → Every Q rs
+every-so P Q f [] h = tt
+every-so P Q f (r ∷ rs) h = (f (r .number) (h .0), every-so P Q f rs (h .1))
 
 -- ---- the numbers that mark it
 
