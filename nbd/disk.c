@@ -263,8 +263,8 @@ static void log_unread(int place, uint64_t first, uint64_t last, const char *why
         nbdkit_error("sectors %" PRIu64 " to %" PRIu64 ": %s cannot be read: %s", first, last, disk_parameters[place], why);
 }
 
-/* Up to where nothing is tried after a failed read at `done`: the end of the page, and of the sector there. A medium that is asked again
- * for the same page takes its time again, and a page has 256 tags. */
+/* The end of the page at `done`, and of the sector there: what is read alone where a read of more has failed, and given up where that fails
+ * too. A medium that is asked again for the same page takes its time again, and a page has 256 tags. */
 static size_t behind_page(off_t from, size_t done, size_t unit, size_t length)
 {
     const size_t page = 4096 - (size_t)(from + (off_t)done) % 4096, end = (done + page + unit - 1) / unit * unit;
@@ -275,23 +275,26 @@ void disk_read(const struct disk *disk, int place, uint64_t first, size_t count,
 {
     const size_t unit = superblock_unit(&disk->shape, place), length = count * unit;
     const off_t from = place_at(disk, place, first);
-    size_t unread = 0; /* sectors just before `done` */
+    size_t done = 0, end = length; /* what is read, and up to where is asked for */
+    size_t unread = 0;             /* sectors just before `done` */
     const char *why = "";
-    for (size_t done = 0; done < length;) {
-        const ssize_t got = pread(images[place].file, to + done, length - done, from + (off_t)done);
-        if (got < 0 && errno == EINTR)
-            continue;
-        if (got > 0) {
+    while (done < length) {
+        if (done == end)
+            end = length;
+        const ssize_t got = pread(images[place].file, to + done, end - done, from + (off_t)done);
+        const size_t alone = got == 0 ? length : behind_page(from, done, unit, length), start = done / unit * unit;
+        if (got < 0 && (errno == EINTR || end > alone)) {
+            end = errno == EINTR ? end : alone;
+        } else if (got > 0) {
             if (unread)
                 log_unread(place, first + done / unit - unread, first + done / unit - 1, why);
             unread = 0;
             done += (size_t)got;
         } else {
-            const size_t start = done / unit * unit;
             why = got == 0 ? "the file ends before it" : strerror(errno);
-            done = got == 0 ? length : behind_page(from, done, unit, length);
-            memset(to + start, 0, done - start);
-            unread += (done - start) / unit;
+            memset(to + start, 0, alone - start);
+            unread += (alone - start) / unit;
+            done = alone;
         }
     }
     if (unread)
