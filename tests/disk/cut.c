@@ -18,6 +18,7 @@
  *   FAIL_SYNC_AT=k    the k-th sync fails with EIO
  *   FAIL_WRITE_AT=k   the k-th pwrite fails with EIO, half of its bytes written, but no half of a tag
  *   FAIL_READ=name:k  the page of that file with byte k cannot be read: a pread ends before it, and one that begins in it fails with EIO
+ *   FAIL_WHOLE=1      a pread that meets that page fails with EIO as a whole
  *
  * A write into a superblock ends the process, with status 97.
  */
@@ -50,7 +51,7 @@ static pthread_mutex_t mutex = PTHREAD_MUTEX_INITIALIZER;
 static struct stat known[ROLES];
 static char paths[ROLES][4096];
 static int watching;
-static long cut_at = -1, events, syncs, pwrites, sync_us, skip_first, fail_sync, fail_write, fail_at;
+static long cut_at = -1, events, syncs, pwrites, sync_us, skip_first, fail_sync, fail_write, fail_at, fail_whole;
 static int log_fd = -1, skipped = NONE, failing = NONE;
 static ssize_t (*real_pwrite)(int, const void *, size_t, off_t);
 static ssize_t (*real_pread)(int, void *, size_t, off_t);
@@ -147,7 +148,7 @@ __attribute__((constructor)) static void start(void)
     }
     watching = 1;
     cut_at = number("CUT_AT", -1), sync_us = number("SYNC_US", 0), skip_first = number("CUT_SKIP_FIRST", 0);
-    fail_sync = number("FAIL_SYNC_AT", 0), fail_write = number("FAIL_WRITE_AT", 0);
+    fail_sync = number("FAIL_SYNC_AT", 0), fail_write = number("FAIL_WRITE_AT", 0), fail_whole = number("FAIL_WHOLE", 0);
     srandom((unsigned)number("CUT_SEED", 1));
     const char *skip = getenv("CUT_SKIP"), *fail = getenv("FAIL_READ"), *log = getenv("CUT_LOG");
     if (skip && (skipped = role_named(skip, strlen(skip))) == NONE) die(98, "CUT_SKIP=%s", skip);
@@ -245,7 +246,7 @@ ssize_t pread(int fd, void *buf, size_t len, off_t at)
 {
     const off_t page = fail_at & ~4095L;
     if (failing != NONE && role_of(fd) == failing && at < page + 4096 && page < at + (off_t)len) {
-        if (at < page) return real_pread(fd, buf, (size_t)(page - at), at);
+        if (at < page && !fail_whole) return real_pread(fd, buf, (size_t)(page - at), at);
         errno = EIO;
         return -1;
     }

@@ -170,9 +170,9 @@ def writes_over_one(rnd):
 def unreadable(rnd):
     """A page that the medium does not give is a damaged place, and no error; its neighbours in the same request are whole."""
     disk, data = new_disk(rnd)
-    for place in PLACES:
+    for place, whole in [(place, whole) for place in PLACES for whole in '01']:
         x = 7
-        env = {'FAIL_READ': f'{place}:{disk.at(place, x)}'}
+        env = {'FAIL_READ': f'{place}:{disk.at(place, x)}', 'FAIL_WHOLE': whole}
         with serving(disk, env=env) as (server, client):
             equal(f'{place} of {x} unreadable', client.read(0, 20), b''.join(data[:20]))
             heard = server.said()
