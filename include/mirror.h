@@ -108,9 +108,9 @@
  *   - The images are private memory. A call may store a tag byte by byte: in a shared mapping of the medium (mmap with MAP_SHARED) a kill
  *     or a power cut between two bytes leaves a mixture, and a second stage cut so loses the sector. The images may be the medium itself
  *     only where a tag lands whole all the same: see case 2 at mirror_write.
- *     Memory as long as the images of which only the sectors at hand are filled will do, since a call on one sector goes by that sector's
- *     parts and writes no others: reserve it (mmap with MAP_PRIVATE, MAP_ANONYMOUS and MAP_NORESERVE), read the parts into it, and write
- *     whole parts out from it, as nbd/run.c in the source tree does.
+ *     It is enough to reserve memory as long as the images (mmap with MAP_PRIVATE, MAP_ANONYMOUS and MAP_NORESERVE) and to fill only the
+ *     sectors at hand: a call on one sector goes by that sector's parts and writes no others. Whole parts are then written out from there,
+ *     as nbd/run.c in the source tree does.
  *   - A write is the three stages, with a flush after each. mirror_write, which makes them in one call, leaves no time to flush in between.
  *     It is for three cases only, which stand there: power cannot go within the call; the images are themselves a medium that keeps the
  *     order in which the calls store, a tag landing whole; or all three images are saved between calls, in one step that is done whole or

@@ -88,8 +88,8 @@ static int read_key(uint8_t key[MIRROR_KEY_BYTES], const char *path)
     if (file >= 0)
         close(file);
     if (length != MIRROR_KEY_BYTES) {
-        nbdkit_error("key=%s: %s", path,
-                     length < 0 ? strerror(errno) : "a key file has exactly 32 bytes: give the one that the disk was made with");
+        nbdkit_error("key=%s: %s: name the file of exactly 32 bytes that the disk was made with", path,
+                     length < 0 ? strerror(errno) : "does not have 32 bytes");
         return -1;
     }
     if (others_may_read)
@@ -105,9 +105,9 @@ static int open_image(struct image *image)
     if (image->file < 0)
         return cannot(image, "opened",
                       errno == ENOENT ? "see the name; if the file is lost, mirror-volume replace makes it anew"
-                                      : "see to it that the server may read and write it");
+                                      : "name a file of the disk that the server may read and write");
     if (fstat(image->file, &about) < 0 || !S_ISREG(about.st_mode))
-        return wrong(image, "is no regular file");
+        return wrong(image, "is no regular file: name a file of the disk");
     image->device = about.st_dev;
     image->inode = about.st_ino;
     for (const struct image *other = images; other != image; other++)
@@ -183,13 +183,23 @@ static int check_length(const struct image *image)
     return -1;
 }
 
-static int check_key(const struct image *image, const struct disk *disk)
+/* Where the check holds for another file the key is right, and this file's check is damaged. */
+static int check_keys(const struct disk *disk)
 {
+    const struct image *unfit = NULL;
     uint32_t answer;
-    if (superblock_has_key(image->superblock, &image->fields, disk->key, &answer))
+    int fit = 0;
+    for (int place = 0; place < PLACES; place++)
+        if (superblock_has_key(images[place].superblock, &images[place].fields, disk->key, &answer))
+            fit++;
+        else if (answer != MIRROR_DONE)
+            return wrong(&images[place], mirror_text(answer));
+        else
+            unfit = &images[place];
+    if (!unfit)
         return 0;
-    return wrong(image,
-                 answer == MIRROR_DONE ? "the key is not that of this disk: give the key file that it was made with" : mirror_text(answer));
+    return wrong(unfit, fit == 0 ? "the key is not that of this disk: give the key file that it was made with"
+                                 : "has a damaged superblock, for the key is that of another of the three files: " SUPERBLOCK_ADVICE);
 }
 
 /* After a kill the kernel may hold what has not landed, and after a failed flush what never will. So what is there is flushed, and then
@@ -225,9 +235,8 @@ int disk_open(struct disk *disk, char *const paths[PLACES], const char *key_path
     for (int place = 0; place < PLACES; place++)
         if (check_length(&images[place]) < 0)
             return -1;
-    for (int place = 0; place < PLACES; place++)
-        if (check_key(&images[place], disk) < 0)
-            return -1;
+    if (check_keys(disk) < 0)
+        return -1;
     for (int place = 0; place < PLACES; place++)
         if (settle(&images[place]) < 0)
             return -1;

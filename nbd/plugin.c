@@ -82,10 +82,9 @@ static int get_ready(void)
 static int after_fork(void)
 {
     const struct superblock *b = &disk.shape;
-    notice("%" PRIu64 " sectors of %" PRIu32 " bytes in %" PRIu32 " part%s, volume number%s %" PRIu64 " to %" PRIu64 "; %" PRIu64
+    notice("%" PRIu64 " sectors of %" PRIu32 " bytes, parts: %" PRIu32 ", volume numbers from %" PRIu64 " on; %" PRIu64
            " sectors are suspect until they are read",
-           b->sectors, b->s, b->parts, b->parts == 1 ? "" : "s", b->parts == 1 ? "" : "s", b->first_number, b->first_number + b->parts - 1,
-           suspects_count());
+           b->sectors, b->s, b->parts, b->first_number, suspects_count());
     if (overwrite_lost)
         notice("overwrite-lost=true: lost sectors are given up where they are written; take it away when that is done");
     if (scrub && scrub_start(&disk, mend) < 0) {

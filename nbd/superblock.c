@@ -48,11 +48,9 @@ bool superblock_is_there(const uint8_t bytes[SUPERBLOCK_BYTES])
 const char *superblock_decode(const uint8_t bytes[SUPERBLOCK_BYTES], struct superblock *to)
 {
     if (!superblock_is_there(bytes))
-        return "has no superblock, and another of the three files has one: see the name; if it is the disk's file, move it away, keep it, "
-               "and go by mirror-volume replace, which makes a new one and says how the old one's places are put back";
+        return "has no superblock, and another of the three files has one: see the name; if it is the disk's file, " SUPERBLOCK_ADVICE;
     if (little_endian(bytes + CRC_AT, 4) != crc32(bytes, CRC_AT))
-        return "has a damaged superblock: move the file away, keep it, and go by mirror-volume replace, which makes a new one and says how "
-               "the old one's places are put back";
+        return "has a damaged superblock: " SUPERBLOCK_ADVICE;
     if (little_endian(bytes + 8, 4) != VERSION)
         return "is of another version of the format: serve it with the release that made it";
     to->role = (uint32_t)little_endian(bytes + 12, 4);

@@ -21,6 +21,11 @@ struct superblock {
     uint64_t first_number; /* the volume's number of part 0 */
 };
 
+/* What to do about a damaged one. */
+#define SUPERBLOCK_ADVICE                                                                                                                  \
+    "move the file away, keep it, and go by mirror-volume replace, which makes a new one and says how the old one's places are put back; " \
+    "where more than one is damaged go by docs/DISK.md"
+
 /* Whether the bytes begin as a superblock does. */
 bool superblock_is_there(const uint8_t bytes[SUPERBLOCK_BYTES]);
 

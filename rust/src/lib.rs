@@ -173,13 +173,14 @@
 //! - **A tag goes out in one write that the medium does whole**: after a cut it is
 //!   the old one or the new one, never a mixture. A local or remote sector whose
 //!   write had begun may then hold anything.
-//! - **The images are private memory.** A call may store a tag byte by byte: in a
-//!   shared mapping of the medium a kill or a power cut between two bytes leaves a
-//!   mixture, and a second stage cut so loses the sector. Memory of which only the
-//!   sectors at hand are filled will do (`vec![0; count * size]` reserves it), since a
-//!   call on one sector goes by that sector's parts and writes no others. The images
-//!   may be the medium itself only where a tag lands whole all the same: see case 2
-//!   of [a write in one call](#a-write-in-one-call).
+//! - **The images are private memory.** A call may store a tag byte by byte: in
+//!   a shared mapping of the medium a kill or a power cut between two bytes
+//!   leaves a mixture, and a second stage cut so loses the sector. It is enough
+//!   to reserve the images (`vec![0; count * size]`) and to fill only the
+//!   sectors at hand: a call on one sector goes by that sector's parts and
+//!   writes no others. The images may be the medium itself only where a tag
+//!   lands whole all the same: see case 2 of [a write in one
+//!   call](#a-write-in-one-call).
 //! - **A write is the three stages, with a flush after each.** [`Volume::write`]
 //!   leaves no time to flush in between, and is for [three
 //!   cases](#a-write-in-one-call) only.

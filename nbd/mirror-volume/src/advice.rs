@@ -27,9 +27,11 @@ pub fn list<'r>(runs: impl Iterator<Item = &'r Run> + Clone) -> String {
 pub fn what_to_do(report: &Report) -> String {
     let mut text = String::new();
     let nothing_fits = report.whole == 0 && report.outcome() == Outcome::Damaged;
+    let unread = report.unreadable.iter().any(|&places| places > 0);
     for (holds, advice) in [
         (nothing_fits, NOTHING_WHOLE),
-        (report.lost > 0, LOST),
+        (report.lost > 0 && unread, LOST_AND_UNREAD),
+        (report.lost > 0 && !unread && !nothing_fits, LOST),
         (report.clashing > 0, CLASHING),
         (report.doubtful > 0, DOUBTFUL),
     ] {
@@ -41,13 +43,19 @@ pub fn what_to_do(report: &Report) -> String {
 }
 
 const NOTHING_WHOLE: &str = concat!(
-    "  No sector is whole. The files may be wrong, or their number: overwrite nothing, and look\n",
-    "  for the right files first.\n",
+    "  None of these sectors is whole. If that is so of the disk or of a part of it, the files may\n",
+    "  be wrong, or their number: overwrite nothing, and look for the right files first.\n",
+);
+
+const LOST_AND_UNREAD: &str = concat!(
+    "  lost, and places cannot be read: the data may still be on the medium. Overwrite nothing:\n",
+    "  copy the file to a good medium first, docs/DISK.md, When something is wrong.\n",
 );
 
 const LOST: &str = concat!(
-    "  lost: no plaintext fits two places, so nothing here says what these sectors held. Write\n",
-    "  them from a backup: `mirror-volume write ... sector=X overwrite-lost=true`.\n",
+    "  lost: no plaintext fits two places. If all sectors of a part are lost, look for the right\n",
+    "  files. Else write them from a backup, which gives up what they held:\n",
+    "  `mirror-volume write ... sector=X overwrite-lost=true`.\n",
 );
 
 pub const CLASHING: &str = concat!(
@@ -57,5 +65,6 @@ pub const CLASHING: &str = concat!(
 
 const DOUBTFUL: &str = concat!(
     "  doubtful: the data is there. One place is damaged, or a write was cut. Mend soon, before\n",
-    "  a second place is damaged: `mirror-volume mend ...`.\n",
+    "  a second place is damaged: `mirror-volume mend ...`. Not so if two of the files may be old\n",
+    "  copies: docs/DISK.md, When something is wrong.\n",
 );

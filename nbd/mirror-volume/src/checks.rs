@@ -110,7 +110,7 @@ fn no_superblock(member: &Member, fault: &Fault, faults: &[Option<Fault>]) -> Fa
     };
     let what_to_do = match fault {
         Fault::Magic | Fault::Crc => about_damage(member, faults),
-        Fault::OtherRole(..) => "exchange the two".to_string(),
+        Fault::OtherRole(found, _) => format!("give it as {}=", found.name()),
         _ => "use the release that made it, or name the right file".to_string(),
     };
     Failure::new(what_is_wrong, what_to_do)
@@ -131,12 +131,14 @@ fn about_damage(member: &Member, faults: &[Option<Fault>]) -> String {
     let none_has_one = faults.iter().all(|fault| *fault == Some(Fault::Magic));
     let what_to_do = match none_has_one {
         true => {
-            "nor have the others: they are no files of a disk, or a create was cut; if it was, \
-             remove the three and create again"
+            "nor have the others: see the names; if a create was cut and they never held data, \
+             move them away and create again; if they have, remove nothing, and go by \
+             docs/DISK.md, When something is wrong"
         }
         false => {
-            "and another file has none either: if a create was cut, remove the three and create \
-             again; if the disk has held data, remove nothing, for its sectors are still there"
+            "and another file has none either: if a create was cut and they never held data, \
+             move them away and create again; if they have, remove nothing, for the sectors are \
+             still there, and go by docs/DISK.md, When something is wrong"
         }
     };
     what_to_do.to_string()
@@ -144,7 +146,8 @@ fn about_damage(member: &Member, faults: &[Option<Fault>]) -> String {
 
 fn replace_it(member: &Member) -> String {
     format!(
-        "move it away, make a new one by `mirror-volume replace ... place={}`, and mend",
+        "move it away and keep it, make a new one by `mirror-volume replace ... place={}`, and go \
+         by what that says",
         member.role.name()
     )
 }

@@ -42,7 +42,7 @@ pub fn run(arguments: &Arguments) -> Result<Outcome, Failure> {
         paths.iter().for_each(|path| files::remove(path));
         return Err(Failure::of_making(failure));
     }
-    output::print(&made(&disk.superblock))?;
+    output::report(&made(&disk.superblock));
     Ok(Outcome::Whole)
 }
 

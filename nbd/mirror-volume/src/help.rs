@@ -50,7 +50,7 @@ mirror-volume create local=FILE tags=FILE remote=FILE key=FILE size=N
 
 Makes the three files of a new disk, every sector zeros. A file that is there is
 never overwritten, and if one is, none is made. If it fails, what it made is
-removed; if it is killed, remove the three and create again.
+removed; if it is killed, move the three away and create again.
 
   size=N     the bytes of the disk, a multiple of the sector; K, M, G or T behind
              the digits stands for 1,024 bytes, 1,024 K and so on

@@ -1,6 +1,6 @@
 //! The key's file.
 
-use std::fs::File;
+use std::fs::{self, File};
 use std::io::{ErrorKind, Read};
 use std::os::unix::fs::MetadataExt;
 use std::path::Path;
@@ -16,6 +16,14 @@ const HASH_KEY_BYTES: usize = 16;
 
 /// Loads a key, and warns if others can read it.
 pub fn load(path: &Path) -> Result<Key, Failure> {
+    // Looked at before, since opening a pipe would wait for its writer.
+    if fs::metadata(path).is_ok_and(|metadata| !metadata.is_file()) {
+        let what_is_wrong = format!("{} is no regular file", path.display());
+        return Err(Failure::new(
+            what_is_wrong,
+            "name the file of the disk's key",
+        ));
+    }
     let mut file = File::open(path).map_err(|error| match error.kind() {
         ErrorKind::NotFound => Failure::new(
             format!("there is no key file {}", path.display()),

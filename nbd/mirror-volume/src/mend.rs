@@ -37,7 +37,7 @@ pub fn run(arguments: &Arguments) -> Result<Outcome, Failure> {
     }
     drop(progress);
     disk.note_unreadable(left.unreadable);
-    output::print(&text(mended, &left))?;
+    output::report(&text(mended, &left));
     Ok(left.outcome())
 }
 

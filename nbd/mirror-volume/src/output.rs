@@ -2,7 +2,7 @@
 
 use std::io::{self, Write};
 
-use crate::failure::Failure;
+use crate::failure::{note, Failure};
 
 /// What a command that was done has found. The worst decides.
 #[derive(Clone, Copy, Debug, PartialEq, Eq, PartialOrd, Ord)]
@@ -21,6 +21,14 @@ pub const COULD_NOT: u8 = 3;
 /// Prints a text.
 pub fn print(text: &str) -> Result<(), Failure> {
     put(text.as_bytes())
+}
+
+/// Prints what a command has done to the disk. It is done, whether that can be told
+/// or not.
+pub fn report(text: &str) {
+    if let Err(failure) = print(text) {
+        note(&format!("it was done, but {failure}"));
+    }
 }
 
 /// Writes bytes. Where nobody reads on, that is a failure and no panic.

@@ -42,7 +42,7 @@ pub fn run(arguments: &Arguments) -> Result<Outcome, Failure> {
         files::remove(path);
         return Err(Failure::of_making(failure));
     }
-    output::print(&made(&member))?;
+    output::report(&made(&member));
     Ok(Outcome::Whole)
 }
 

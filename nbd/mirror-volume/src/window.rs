@@ -7,6 +7,7 @@ use mirror::{map_words, Volume};
 use crate::disk::Disk;
 use crate::failure::Failure;
 use crate::shape::Role;
+use crate::size::grouped;
 
 /// The files that were written since the last flush.
 #[derive(Clone, Copy, Debug, Default)]
@@ -16,6 +17,20 @@ impl Touched {
     pub fn add(&mut self, role: Role) {
         self.0[role.index()] = true;
     }
+}
+
+/// Whether so many bytes can be had: `vec!` would end the process.
+fn is_there_memory(bytes: usize) -> Result<(), Failure> {
+    let tried = Vec::<u8>::new().try_reserve_exact(bytes);
+    tried.map_err(|_| {
+        Failure::new(
+            format!(
+                "there is no memory for a part, {} bytes",
+                grouped(bytes as u64)
+            ),
+            "give more (ulimit -v), or make disks with a smaller part=",
+        )
+    })
 }
 
 /// The images of one part, a volume of the library. They are as long as the part;
@@ -34,7 +49,9 @@ impl<'d> Window<'d> {
     pub fn new(disk: &'d Disk, part: u64) -> Result<Window<'d>, Failure> {
         let shape = disk.shape();
         let count = shape.sectors_of(part);
-        let [local, tags, remote] = Role::ALL.map(|role| vec![0; count * shape.place_bytes(role)]);
+        let bytes = Role::ALL.map(|role| count * shape.place_bytes(role));
+        is_there_memory(bytes.iter().sum())?;
+        let [local, tags, remote] = bytes.map(|bytes| vec![0; bytes]);
         let mut volume = Volume::new(
             &disk.key[..],
             shape.number_of(part),

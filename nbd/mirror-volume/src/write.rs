@@ -40,7 +40,7 @@ pub fn run(arguments: &Arguments) -> Result<Outcome, Failure> {
         return Ok(Outcome::Damaged);
     }
     write_all(&disk, range, &input, overwrite_lost)?;
-    output::print(&written(first, &found))?;
+    output::report(&written(first, &found));
     Ok(Outcome::Whole)
 }
 
@@ -114,8 +114,9 @@ fn refuse(found: &Report) {
     );
     if found.lost > 0 {
         text.push_str(
-            "  lost: see by `mirror-volume status ...` that other sectors are whole. If they are, \
-             write\n  again with overwrite-lost=true.\n",
+            "  lost: see by `mirror-volume status ...` that other sectors are whole, and that all \
+             places can\n  be read. If so, write again with overwrite-lost=true, which gives up \
+             what they held.\n",
         );
     }
     if found.clashing > 0 {

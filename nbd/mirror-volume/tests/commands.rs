@@ -216,7 +216,7 @@ fn where_nothing_is_whole_nothing_is_to_be_overwritten() {
         folder.damage_place("remote", sector);
     }
     let words = [
-        "No sector is whole",
+        "None of these sectors is whole",
         "overwrite nothing",
         "sectors 0 to 1: lost",
     ];
@@ -515,7 +515,7 @@ fn swapped_files_are_told() {
     let run = folder.run("status", &["local=remote", "remote=local"]);
     run.fails_with(&[
         "remote is the remote file of the disk",
-        "given as local=: exchange the two",
+        "given as local=: give it as remote=",
     ]);
     let run = folder.run("status", &["tags=local", "local=tags"]);
     run.fails_with(&["tags is the tags file", "given as local="]);
@@ -595,7 +595,7 @@ fn damaged_superblocks_are_told() {
     folder.damage("tags", 0);
     folder
         .status()
-        .fails_with(&["a create was cut", "remove the three and create again"]);
+        .fails_with(&["a create was cut", "remove nothing"]);
     folder.put("local", &local);
     folder
         .status()
@@ -667,7 +667,7 @@ fn a_file_that_is_gone_is_replaced_and_mended() {
         let run = folder.status();
         run.ends_with(1, &["doubtful  40\n", "sectors 0 to 39: doubtful"]);
         assert!(
-            !run.text.contains("No sector is whole"),
+            !run.text.contains("None of these sectors is whole"),
             "the data is there"
         );
         folder.run("mend", &[]).ends_with(0, &["mended 40 sectors"]);
