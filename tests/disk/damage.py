@@ -432,7 +432,7 @@ def wrong_files(rnd):
         refused(disk, 'bytes')
         os.truncate(mine, length)
         for at, words in ((0, 'no superblock'), (40, 'damaged superblock'), (3000, 'damaged superblock'), (4077, 'damaged superblock'),
-                          (4090, 'the key is not')):
+                          (4090, 'the key is that of another of the three files')):
             old = disk.bytes_of(place)[at:at + 1]
             disk.put(place, at, bytes([old[0] ^ 1]))
             refused(disk, words)
