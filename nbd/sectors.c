@@ -8,8 +8,9 @@
  *               three places, and is flushed. A cut in that leaves it lost, as it was, or with the new plaintext: the zeros of the blank
  *               are never there for a reader to take for data.
  *
- * Of a run each sector has at most one call that is not finished. Where writing out fails, what did go out is flushed all the same, so that
- * what the kernel shows to the next reader is what the medium has: it is a cut in that call. If flushing fails nothing more is written.
+ * Of a run each sector has at most one call that is not finished, unless it is given up. Where writing out fails, what did go out is
+ * flushed all the same, so that what the kernel shows to the next reader is what the medium has: it is a cut in that call. If flushing
+ * fails nothing more is written.
  * SPDX-License-Identifier: Apache-2.0 */
 #define NBDKIT_API_VERSION 2
 #include "sectors.h"
@@ -43,11 +44,12 @@ static bool is_refusal(uint32_t answer)
     return mirror_is_refusal(answer);
 }
 
+#define WHAT_TO_DO "; docs/DISK.md says what to do"
+
 static const char *text(uint32_t answer)
 {
-    return answer == MIRROR_REFUSED_LOST
-               ? "lost: no plaintext fits two places; to give it up, write all of it anew with overwrite-lost=true"
-           : answer == MIRROR_REFUSED_CLASHING ? "clashing: more than one plaintext fits two places; docs/DISK.md says what to do"
+    return answer == MIRROR_REFUSED_LOST       ? "lost: no plaintext fits two places"
+           : answer == MIRROR_REFUSED_CLASHING ? "clashing: more than one plaintext fits two places"
                                                : mirror_text(answer);
 }
 
@@ -81,7 +83,7 @@ static void log_found(const struct run *run, bool (*kind)(uint32_t), const char 
 
 static int refused(const struct run *run, size_t i, uint32_t answer)
 {
-    log_sectors(run, i, i, text(answer), "");
+    log_sectors(run, i, i, text(answer), WHAT_TO_DO);
     nbdkit_set_error(EIO);
     return -1;
 }
@@ -158,7 +160,7 @@ int sectors_read(const struct run *run, bool mend, bool *mended)
     const bool mends = doubtful && mend && !disk_is_stopped();
     *mended = mends && mend_found(run, &written) == 0;
     log_found(run, is_doubtful, *mended ? ", mended" : mends ? ", not mended" : ", left as it is");
-    log_found(run, is_refusal, "");
+    log_found(run, is_refusal, WHAT_TO_DO);
     settle_map(run, &written);
     if (refusals)
         nbdkit_set_error(EIO);
@@ -262,9 +264,9 @@ int sectors_write(const struct run *run, size_t skip, const uint8_t *bytes, size
 {
     struct written written = {.failed = false};
     const size_t s = run->volume.s, last = run->count - 1;
-    const bool first_in_part = skip != 0 || length < s, last_in_part = (skip + length) % s != 0;
-    int result = first_in_part ? read_edge(run, 0) : 0;
-    if (result == 0 && last_in_part && !(last == 0 && first_in_part))
+    const bool first_is_partial = skip != 0 || length < s, last_is_partial = (skip + length) % s != 0;
+    int result = first_is_partial ? read_edge(run, 0) : 0;
+    if (result == 0 && last_is_partial && !(last == 0 && first_is_partial))
         result = read_edge(run, last);
     if (result == 0) {
         memcpy(run->plain + skip, bytes, length);
