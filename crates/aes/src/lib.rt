@@ -1,4 +1,6 @@
 // AES encryption (FIPS 197), a column at a time and by one table of 256 words.
+#![tactic(auto)]
+
 ghost use Rattle.std.specs.Prelude.{◌≡◌, [], ◌∷◌, ◌+◌, ◌-◌, ◌*◌, ◌/◌, ◌%◌, ◌<◌, ◌≤◌, length, get_or, take};
 ghost use Rattle.block.specs.Bytes.{from_bytes, to_bytes, part};
 ghost use Rattle.block.specs.Value.{value};
@@ -12,7 +14,7 @@ use block::Block;
 pub type Table = [u32; 256];
 
 // A state, one word a column: the word's first byte, the most significant, is in row 0.
-#[derive(Drop)]
+#[derive(Clone, Copy)]
 struct Columns {
     c0: u32,
     c1: u32,

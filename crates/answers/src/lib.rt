@@ -1,5 +1,7 @@
 // The answers of the calls, their numbers, and the checks of arguments (document 01). Each check decides one list of rules, and
 // `first_refusal` puts two in order. An inner crate, but no function here requires anything.
+#![tactic(auto)]
+
 ghost use Rattle.std.specs.Prelude.{◌≡◌, ◌++◌};
 ghost use Rattle.mode.specs.Scheme.{is_size};
 ghost use Rattle.mode.specs.Sealing.{key_from};
@@ -7,7 +9,7 @@ ghost use Rattle.answers.specs.Answers.{doubt_number, refusal_number, place_name
 ghost use Rattle.answers.specs.Rules.{first_of, first_some, key_rules, size_rules, length_rules, side_rules, shape, shape_rules, number_rules, list_rules, map_rules, pair_rules, parts_rules, open_rules, volume_rules, sector_rules, survey_rules, sector_and_map_rules, survey_and_map_rules, count_rules, count_and_map_rules};
 
 // Document 01's three places.
-#[derive(Drop)]
+#[derive(Clone, Copy)]
 pub enum Place {
     Local,
     Tag,
@@ -16,7 +18,7 @@ pub enum Place {
 
 // Document 01's refusals, from 1 on, and then those of the change requests. 12 is the program `frames`'s, 8 to 11 and 13 are a
 // volume's.
-#[derive(Drop)]
+#[derive(Clone, Copy)]
 pub enum Refusal {
     KeyLength,
     SectorSize,
@@ -35,7 +37,7 @@ pub enum Refusal {
 }
 
 // What judging answers.
-#[derive(Drop)]
+#[derive(Clone, Copy)]
 pub enum Judged {
     Whole,
     Doubtful(Place),
@@ -43,7 +45,7 @@ pub enum Judged {
 }
 
 // What a call answers that only writes.
-#[derive(Drop)]
+#[derive(Clone, Copy)]
 pub enum Done {
     Done,
     Refused(Refusal),

@@ -1,4 +1,6 @@
 // Chains of n operations, each on the result of the last, for the program bench/bench.c to time.
+#![tactic(auto)]
+
 ghost use Rattle.std.specs.Prelude.{◌≡◌, ◌+◌, ◌*◌, ◌^◌, ◌≤◌, length};
 ghost use Rattle.block.specs.Value.{value};
 ghost use Rattle.fips197.specs.Aes.{expand, cipher_number};

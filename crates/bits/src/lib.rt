@@ -1,4 +1,6 @@
 // One bit of a lent slice of 64-bit words: bit i is bit i mod 64, lowest first, of word i / 64.
+#![tactic(auto)]
+
 ghost use Rattle.std.specs.Prelude.{◌≡◌, true, false, ◌/◌, ◌<◌, length};
 ghost use Rattle.bits.specs.Bits.{digit, put_digit, bit, mark};
 

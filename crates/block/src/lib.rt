@@ -1,4 +1,6 @@
 // Blocks of 16 bytes as elements of GF(2^128) modulo X^128 + X^7 + X^2 + X + 1, and the byte slices that hold them.
+#![tactic(auto)]
+
 ghost use Rattle.std.specs.Prelude.{◌≡◌, ℕ, ◌+◌, ◌*◌, ◌/◌, ◌%◌, ◌^◌, ◌<◌, ◌≤◌, ◌++◌, length, take, drop, ◌==◌, bit_xor};
 ghost use Rattle.block.specs.Bytes.{from_bytes, to_bytes, xor_bytes};
 ghost use Rattle.block.specs.Bytes as B;
@@ -8,7 +10,7 @@ ghost use Rattle.block.specs.Tables.{Multiples, Reductions};
 ghost use Rattle.block.specs.Value.{value};
 
 // The element hi * 2^64 + lo.
-#[derive(Drop)]
+#[derive(Clone, Copy)]
 pub struct Block {
     pub hi: u64,
     pub lo: u64,

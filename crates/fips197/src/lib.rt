@@ -1,4 +1,6 @@
 // AES as the standard has it (FIPS 197): its definitions in specs/, and its one table.
+#![tactic(auto)]
+
 ghost use Rattle.std.specs.Prelude.{◌≡◌};
 ghost use Rattle.fips197.specs.Aes.{s_box_table};
 

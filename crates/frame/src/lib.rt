@@ -1,5 +1,7 @@
 // A frame of the program `frames`: what it refuses, and the call of `sector` that it asks for. The crate above decodes a line and prints the
 // answer. What is lent to it may have a `requires`: a frame has a first byte, its kind, and is called once `check_frame` has passed it.
+#![tactic(auto)]
+
 ghost use Rattle.std.specs.Prelude.{◌≡◌, ◌++◌, ◌+◌, ◌*◌, ◌≤◌, length};
 ghost use Rattle.answers.specs.Answers.{judged_number, done_option};
 ghost use Rattle.answers.specs.Rules.{first_of};

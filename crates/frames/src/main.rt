@@ -1,5 +1,7 @@
 // Answers frames: reads standard input a buffer at a time and prints one line for each of its lines. Memory is fixed, whatever the input is.
 // What a turn prints and does next is `input::turn`; here is only the reading and the writing.
+#![tactic(auto)]
+
 ghost use Rattle.std.specs.Prelude.{◌≡◌, true, ◌≤◌, length};
 
 use input::Next;
@@ -9,14 +11,14 @@ use libc::{STDERR_FILENO, STDIN_FILENO, STDOUT_FILENO};
 const MOST_TURNS: u64 = u64::MAX;
 
 // What a turn leaves: how many bytes of a line that has not ended are held, and whether the program reads on.
-#[derive(Drop)]
+#[derive(Clone, Copy)]
 struct State {
     used: usize,
     more: bool,
 }
 
 // How the turns ended: whether the program would read on, and how many there were.
-#[derive(Drop)]
+#[derive(Clone, Copy)]
 struct Stop {
     more: bool,
     turns: u64,

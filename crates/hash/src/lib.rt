@@ -1,4 +1,6 @@
 // The hash BRW over blocks in a lent byte slice (document 01, "Hash").
+#![tactic(auto)]
+
 ghost use Rattle.std.specs.Prelude.{◌≡◌, ◌*◌, ◌^◌, ◌≤◌, ◌<◌, ◌++◌, ◌∷◌, [], length};
 ghost use Rattle.std.specs.Int.Bits.{bit_xor};
 ghost use Rattle.block.specs.Bytes.{blocks_of};
@@ -39,7 +41,7 @@ fn power_at(p: &[u64; 18], i: usize) -> Block
 }
 
 // An exponent t, and h^t.
-#[derive(Drop)]
+#[derive(Clone, Copy)]
 struct KeyPower {
     exponent: usize,
     element: Block,

@@ -1,4 +1,6 @@
 // A sector's parts of a volume's three images, lent on with a prepared key: to judging, to the sealing of one side, and to comparing.
+#![tactic(auto)]
+
 ghost use Rattle.std.specs.Prelude.{◌≡◌, ◌+◌, ◌*◌, ◌<◌, ◌≤◌, ◌%◌, length};
 ghost use Rattle.block.specs.Bytes.{to_bytes, part, patch, same};
 ghost use Rattle.block.specs.Value.{value};

@@ -1,4 +1,6 @@
 // The program `frames` between its reads and its writes: an input fed one buffer at a time as lines, and what a turn does with what a read gave.
+#![tactic(auto)]
+
 ghost use Rattle.std.specs.Prelude.{◌≡◌, ◌++◌, ◌+◌, ◌*◌, ◌-◌, ◌≤◌, min, length, take, drop, replicate};
 ghost use Rattle.line.specs.Line.{print_line};
 ghost use Rattle.line.specs.Inner.{Prints};
@@ -9,7 +11,7 @@ ghost use Rattle.input.specs.Inner.{Feeds, given_of};
 // ---- an input fed one buffer at a time
 
 // How many bytes of a line that has not ended are held, and how many there are to print.
-#[derive(Drop)]
+#[derive(Clone, Copy)]
 struct Fed {
     used: usize,
     printed: usize,
@@ -113,14 +115,14 @@ fn finish(line: &[u8; 16499], used: usize, out: &mut [u8; 213107]) -> usize
 // ---- a turn of the program
 
 // What a read gave: no bytes are the end of the input.
-#[derive(Drop)]
+#[derive(Clone, Copy)]
 enum Given {
     Failed,
     Bytes(usize),
 }
 
 // What the program does after a turn.
-#[derive(Drop)]
+#[derive(Clone, Copy)]
 pub enum Next {
     ReadOn,
     Ended,
@@ -128,7 +130,7 @@ pub enum Next {
 }
 
 // What a turn leaves: how many bytes of a line that has not ended are held, how many there are to print, and what comes next.
-#[derive(Drop)]
+#[derive(Clone, Copy)]
 pub struct Outcome {
     pub used: usize,
     pub printed: usize,

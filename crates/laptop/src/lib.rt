@@ -3,6 +3,8 @@
 //
 // Its contract is what these calls leave. No contract says which calls are made on the way, or in which order, and a power cut is only safe
 // with these: that is read here, where no other call stands, and tests/check_order sees it in the stores of the compiled library.
+#![tactic(auto)]
+
 ghost use Rattle.std.specs.Prelude.{◌≡◌, min};
 ghost use Rattle.mode.specs.Sealing.{key_from, triple};
 ghost use Rattle.answers.specs.Answers.{judged_number};
@@ -16,7 +18,7 @@ ghost use Rattle.laptop.specs.Inner.{call_of};
 use answers::Judged;
 
 // The calls that follow the read.
-#[derive(Drop)]
+#[derive(Clone, Copy)]
 enum Step {
     Mend,
     First,

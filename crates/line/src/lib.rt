@@ -1,5 +1,7 @@
 // What the program `frames` prints for one line. `print_line` is what the crate above uses: it asks for room for what it prints, since a line
 // that found none would have no answer.
+#![tactic(auto)]
+
 ghost use Rattle.std.specs.Prelude.{◌≡◌, [], ◌+◌, ◌*◌, ◌≤◌, ◌<◌, length, replicate};
 ghost use Rattle.std.proofs.Math.Option.{none};
 ghost use Rattle.answers.specs.Answers.{refusal_number, done_option};

@@ -1,4 +1,6 @@
 // A map of suspect sectors: it is started, and its suspects are counted by the ones in each 64-bit word.
+#![tactic(auto)]
+
 ghost use Rattle.std.specs.Prelude.{◌≡◌, ◌%◌, ◌^◌, ◌-◌, ◌≤◌, min, length};
 ghost use Rattle.std.specs.Int.Count.{ones};
 ghost use Rattle.answers.specs.Answers.{done_number};

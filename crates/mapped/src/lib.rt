@@ -1,5 +1,7 @@
 // The calls on a volume with a map of suspects (change request S-4). Each checks 1, 14, 2, 8, 13 and 9 (a survey 11), is then the call of
 // the same name without a map, and marks the bit of its sector by the answer. It takes any input and checks it for itself.
+#![tactic(auto)]
+
 ghost use Rattle.std.specs.Prelude.{◌≡◌, ◌/◌, ◌<◌, length};
 ghost use Rattle.mode.specs.Sealing.{key_from, triple};
 ghost use Rattle.answers.specs.Answers.{refusal_number, done_number, judged_number};

@@ -1,5 +1,7 @@
 // The C interface. Each function's contract is that of the call that it names, with the answer as document 01's number: 0 for whole or done,
 // 81, 82 or 83 (hexadecimal) for doubt at local, tag or remote, or the refusal.
+#![tactic(auto)]
+
 ghost use Rattle.std.specs.Prelude.{◌≡◌};
 ghost use Rattle.mode.specs.Sealing.{key_from, triple};
 ghost use Rattle.answers.specs.Answers.{done_number, judged_number};

@@ -1,4 +1,6 @@
 // The double ciphertext mode: a key prepared once, the tag of a plaintext, and a side block by block.
+#![tactic(auto)]
+
 ghost use Rattle.std.specs.Prelude.{◌≡◌, true, ◌≤◌, ◌%◌, length};
 ghost use Rattle.block.specs.Value.{value};
 ghost use Rattle.fips197.specs.Aes.{cipher_number};
@@ -13,7 +15,7 @@ use aes::Table;
 use block::Block;
 
 // What is done to each block of a sector.
-#[derive(Drop)]
+#[derive(Clone, Copy)]
 pub enum Direction {
     SealLocal,
     SealRemote,
@@ -22,7 +24,7 @@ pub enum Direction {
 }
 
 // The blocks that a sealing starts from: E(0), E(1) and the tweak.
-#[derive(Drop)]
+#[derive(Clone, Copy)]
 pub struct Context {
     pub alpha: Block,
     pub beta: Block,
@@ -30,14 +32,14 @@ pub struct Context {
 }
 
 // E(0) and E(1).
-#[derive(Drop)]
+#[derive(Clone, Copy)]
 pub struct Masks {
     pub alpha: Block,
     pub beta: Block,
 }
 
 // What is worked out once of a key: the round keys, the powers of the hash key, E(0) and E(1).
-#[derive(Drop)]
+#[derive(Clone, Copy)]
 pub struct Prepared {
     pub words: [u32; 44],
     pub powers: [u64; 18],

@@ -3,6 +3,8 @@
 // in order, then the answer's number and each slice that the call writes, as it is after. The volume's number and the address are one
 // field, of 16 bytes, or of 8 where the number is 0. A vector agrees where the call gives that answer and leaves every byte of those
 // slices so.
+#![tactic(auto)]
+
 ghost use Rattle.std.specs.Prelude.{◌≡◌, ◌+◌, ◌≤◌, ◌<◌, length};
 
 use libc::{STDIN_FILENO, STDOUT_FILENO};
@@ -20,7 +22,7 @@ const COMBINE: u8 = 4;
 const UNKNOWN: u8 = 5;
 
 // How many vectors of one kind agreed, and how many did not.
-#[derive(Drop)]
+#[derive(Clone, Copy)]
 struct Tally {
     agreed: usize,
     differ: usize,

@@ -1,8 +1,10 @@
 // What a survey reports (document 01, change request S-1).
+#![tactic(auto)]
+
 use answers::Refusal;
 
 // How many sectors have each verdict, and the whole ones in thousandths.
-#[derive(Drop)]
+#[derive(Clone, Copy)]
 pub struct Counts {
     pub whole: usize,
     pub doubtful: usize,
@@ -12,7 +14,7 @@ pub struct Counts {
 }
 
 // What a survey answers.
-#[derive(Drop)]
+#[derive(Clone, Copy)]
 pub enum Surveyed {
     Counted(Counts),
     Refused(Refusal),

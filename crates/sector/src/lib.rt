@@ -1,4 +1,6 @@
 // The sealed sector (document 01): seal, judge, open, rebuild and combine. Each call takes any input and checks it for itself.
+#![tactic(auto)]
+
 ghost use Rattle.std.specs.Prelude.{◌≡◌, true, length};
 ghost use Rattle.block.specs.Value.{value};
 ghost use Rattle.mode.specs.Prepared.{Ready, scheme_of};
@@ -152,7 +154,7 @@ fn sealing_opposite(side: Side) -> Direction
 }
 
 // What opening a side writes: the plaintext, or the opposite side as the plaintext seals.
-#[derive(Drop)]
+#[derive(Clone, Copy)]
 enum Wanted {
     Plaintext,
     Opposite,

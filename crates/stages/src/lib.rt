@@ -1,4 +1,6 @@
 // The calls on one sector of a volume with a prepared key: the three stages, the writing of all places and the mend.
+#![tactic(auto)]
+
 ghost use Rattle.std.specs.Prelude.{◌≡◌, length};
 ghost use Rattle.mode.specs.Prepared.{Ready};
 ghost use Rattle.mode.specs.Sealing.{triple};

@@ -1,4 +1,6 @@
 // The survey of a volume (document 01, change requests S-1 and S-2). The call takes any input and checks it for itself.
+#![tactic(auto)]
+
 ghost use Rattle.std.specs.Prelude.{◌≡◌, true, ◌+◌, ◌*◌, ◌/◌, ◌<◌, ◌≤◌, length};
 ghost use Rattle.std.proofs.lemmas.List.Edits.{sets};
 ghost use Rattle.mode.specs.Prepared.{KeyReady, scheme_of};

@@ -1,5 +1,7 @@
 // What a call on one sector of a volume does to the sector's bit in the map of suspects (change request S-4).
-#[derive(Drop)]
+#![tactic(auto)]
+
+#[derive(Clone, Copy)]
 pub enum Mark {
     Clears,
     Sets,

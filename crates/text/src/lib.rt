@@ -1,4 +1,6 @@
 // Text: hexadecimal digits, and lines.
+#![tactic(auto)]
+
 ghost use Rattle.std.specs.Prelude.{◌≡◌, true, ◌&&◌, cond, ◌+◌, ◌*◌, eqb, length, drop};
 ghost use Rattle.text.specs.Digits.{is_digit, digit_value, all_digits};
 ghost use Rattle.text.specs.Digits as D;

@@ -1,5 +1,7 @@
 // Prints the examples of FIPS 197 for a key of 16 bytes, appendices B and C.1: on each line the key, the plaintext and
 // the ciphertext that the code finds.
+#![tactic(auto)]
+
 ghost use Rattle.std.specs.Prelude.{◌≡◌, length};
 ghost use Rattle.block.specs.Value.{value};
 ghost use Rattle.fips197.specs.Aes.{expand, cipher_number};

@@ -1,5 +1,7 @@
 // Judging a sector and opening a side with a prepared key (document 01, "The verdict"), which the calls on a sector and on a volume share.
 // An inner crate: its functions may require what their callers have checked.
+#![tactic(auto)]
+
 ghost use Rattle.std.specs.Prelude.{◌≡◌, length};
 ghost use Rattle.block.specs.Bytes.{same};
 ghost use Rattle.block.specs.Value.{value};
@@ -14,7 +16,7 @@ use answers::{Judged, Place, Refusal};
 use mode::{Context, Direction};
 
 // A side of a sector. It is a number only where a caller gives it.
-#[derive(Drop)]
+#[derive(Clone, Copy)]
 pub enum Side {
     Local,
     Remote,

@@ -1,5 +1,7 @@
 // Calls on one sector of a volume (document 01): blank, three write stages, read and mend. Each call takes any input and checks it for
 // itself.
+#![tactic(auto)]
+
 ghost use Rattle.std.specs.Prelude.{◌≡◌, true, length};
 ghost use Rattle.mode.specs.Scheme.{is_key};
 ghost use Rattle.mode.specs.Sealing.{key_from, triple};
