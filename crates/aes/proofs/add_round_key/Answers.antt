@@ -1,0 +1,6 @@
+use Rattle.aes.proofs.Rounds.{key_state}
+use borrow.Author.Rules.{rules}
+use Rattle.aes.proofs.add_round_key.Goals as goal
+
+pub returns : goal.returns
+returns c = let args = c.args in key_state args.w.now args.n args.s

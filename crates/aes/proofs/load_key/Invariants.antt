@@ -1,0 +1,15 @@
+use mathlib.Core.Path.{◌≡◌, refl, ap, ◌∙◌}
+use mathlib.Core.List.{List, ◌++◌}
+use Prim.Native.Nat.{ℕ, ◌-◌, ◌≤◌}
+use native.Mathlib.Omega.{arith}
+use lib.ListN.{length, take, drop, set, length-set}
+use Rattle.block.proofs.Lists.{fill_turn}
+use Rattle.fips197.specs.Aes.{key_words}
+use Rattle.fips197.proofs.Schedule.{length_key, key_at, key_loaded}
+use Rattle.aes.proofs.load_key.Given as goal
+
+abbrev pub invariant-loop-i : goal.invariant-loop-i
+invariant-loop-i l = (l.i ≤ l.nk) × (length l.w ≡ length l.initial.w) × (l.w ≡ take l.i (key_words l.nk l.key) ++ drop l.i l.initial.w)
+
+abbrev pub decreases-loop-i : goal.decreases-loop-i
+decreases-loop-i l = l.nk - l.i

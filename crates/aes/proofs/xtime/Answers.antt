@@ -1,0 +1,8 @@
+use mathlib.Core.Path.{refl}
+use Rattle.fips197.specs.Aes.{xtime}
+use borrow.Author.Rules.{rules}
+use Rattle.aes.proofs.xtime.Goals as goal
+
+pub returns : goal.returns
+unfolding xtime
+returns c = refl

@@ -1,0 +1,11 @@
+use Rattle.mode.specs.Sealing.{key_from}
+use Rattle.answers.specs.Rules.{shape, list_rules, volume_rules}
+use Rattle.answers.proofs.Rules.{first_both}
+use borrow.Author.Rules.{rules}
+use Rattle.answers.proofs.check_survey.Goals as goal
+
+pub returns : goal.returns
+returns c =
+    let a = c.args in
+    first_both (list_rules a.n a.room) (volume_rules (key_from a.key.now) a.s (shape a.s a.n a.l a.g a.r))
+    c.check_volume-images.ensures c.check_list-list.ensures c.first_refusal.ensures

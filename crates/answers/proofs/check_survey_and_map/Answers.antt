@@ -1,0 +1,13 @@
+use mathlib.Core.List.{◌++◌}
+use Rattle.mode.specs.Sealing.{key_from}
+use Rattle.answers.specs.Rules.{shape, map_rules, list_rules, volume_rules}
+use Rattle.answers.proofs.Rules.{first_both}
+use borrow.Author.Rules.{rules}
+use Rattle.answers.proofs.check_survey_and_map.Goals as goal
+
+pub returns : goal.returns
+returns c =
+    let a = c.args in
+    let rest = first_both (list_rules a.n a.room) (map_rules a.n a.words) c.check_words-map.ensures c.check_list-list.ensures c.first_refusal-lent.ensures in
+    first_both (map_rules a.n a.words ++ list_rules a.n a.room) (volume_rules (key_from a.key.now) a.s (shape a.s a.n a.l a.g a.r))
+    c.check_volume-images.ensures rest c.first_refusal.ensures

@@ -1,0 +1,7 @@
+use native.Mathlib.Omega.{arith}
+use Rattle.bits.proofs.Digits.{code_clear}
+use borrow.Author.Rules.{rules}
+use Rattle.bits.proofs.with_zero.Goals as goal
+
+pub returns : goal.returns
+returns c = code_clear c.args.k c.args.w (omega arith) (omega arith)

@@ -1,0 +1,5 @@
+use borrow.Author.Rules.{rules}
+use Rattle.hash.proofs.mul_add.Goals as goal
+
+pub returns : goal.returns
+returns c = cc

@@ -1,0 +1,6 @@
+use Rattle.images.proofs.Parts.{lent_compared}
+use borrow.Author.Rules.{rules}
+use Rattle.images.proofs.fits_local.Goals as goal
+
+pub returns : goal.returns
+returns c = search lent_compared

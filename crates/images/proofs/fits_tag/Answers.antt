@@ -1,0 +1,6 @@
+use Rattle.images.proofs.Parts.{stored_compared}
+use borrow.Author.Rules.{rules}
+use Rattle.images.proofs.fits_tag.Goals as goal
+
+pub returns : goal.returns
+returns c = search stored_compared

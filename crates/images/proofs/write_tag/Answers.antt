@@ -1,0 +1,6 @@
+use Rattle.images.proofs.Parts.{stored-written}
+use borrow.Author.Rules.{rules}
+use Rattle.images.proofs.write_tag.Goals as goal
+
+pub returns : goal.returns
+returns c = search stored-written

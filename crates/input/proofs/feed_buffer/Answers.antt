@@ -1,0 +1,82 @@
+use mathlib.Core.Path.{sym, ◌∙◌}
+use Prim.Native.Nat.{◌-◌, ◌≤◌}
+use native.Mathlib.Omega.{arith}
+use lib.ListN.{length, length-take, length-drop}
+use borrow.Author.Rules.{rules}
+use Rattle.input.proofs.Stretches.{SoFar, so_far_none, so_far_next, fed_all_lem}
+use Rattle.input.proofs.feed_buffer.Goals as goal
+
+-- `feed_buffer` meets its contract. The loop's invariant is `SoFar`: what is printed, and what feeding the rest gives, is what feeding the whole
+-- buffer gives. The measure is what is left of the buffer. Assumes nothing.
+
+pub loop-end-init : goal.loop-end-init
+loop-end-init c =
+    let a = c.args in
+    let h = c.requires in
+    so_far_none a.buffer.now a.line.now a.used a.out.now c.line_end-end.result
+    h.0 h.1 c.line_end-end.ensures
+
+pub slice_bounds-hold-count : goal.slice_bounds-hold-count
+slice_bounds-hold-count c = let e = c.loop-end.invariant.ends in omega arith
+
+pub slice_bounds-hold-start : goal.slice_bounds-hold-start
+slice_bounds-hold-start c = let e = c.loop-end.invariant.ends in search rules
+
+pub slice_bounds-hold-end : goal.slice_bounds-hold-end
+slice_bounds-hold-end c = let e = c.loop-end.invariant.within in search rules
+
+pub hold-n-requires : goal.hold-n-requires
+hold-n-requires c = (c.loop-end.invariant.line_long, c.loop-end.invariant.most)
+
+pub print_held-printed-requires : goal.print_held-printed-requires
+print_held-printed-requires c =
+    let l = c.loop-end in
+    let few = simp (length-take, length-drop) at c.hold-n.ensures.2 in
+    let same = c.hold-n.auto.line in
+    let v = l.invariant in
+    let p = c.requires in
+    (omega arith, omega arith)
+
+pub loop-end-preserved : goal.loop-end-preserved
+loop-end-preserved c =
+    let l = c.loop-end in
+    let o = c.hold-n in
+    let p = c.print_held-printed in
+    let part = simp (length-take, length-drop) at o.ensures.2 in
+    let v = l.invariant in
+    let h = c.requires in
+    so_far_next v o.result _ o.ensures.0 (omega arith)
+    p.result _ c.line_end-end-in-loop-end.result (o.auto.1.0 ∙ v.line_long) (omega arith) p.auto.1.1.0
+    p.ensures.0 p.ensures.1 p.ensures.2 (omega arith) c.line_end-end-in-loop-end.ensures
+
+pub slice_bounds-hold-count-2 : goal.slice_bounds-hold-count-2
+slice_bounds-hold-count-2 c = let e = c.loop-end.invariant.ends in omega arith
+
+pub slice_bounds-hold-start-2 : goal.slice_bounds-hold-start-2
+slice_bounds-hold-start-2 c = let e = c.loop-end.invariant.ends in search rules
+
+pub slice_bounds-hold-end-2 : goal.slice_bounds-hold-end-2
+slice_bounds-hold-end-2 c = let e = c.loop-end.invariant.within in search rules
+
+pub hold-last-requires : goal.hold-last-requires
+hold-last-requires c = (c.loop-end.invariant.line_long, c.loop-end.invariant.most)
+
+pub shape_of-line : goal.shape_of-line
+shape_of-line c =
+    let v = c.loop-end.invariant.line_long in
+    let h = c.requires in
+    c.hold-last.auto.line ∙ v ∙ sym h.0
+
+pub shape_of-out : goal.shape_of-out
+shape_of-out c = c.loop-end.invariant.out_long
+
+pub returns : goal.returns
+returns c =
+    let a = c.args in
+    let l = c.loop-end in
+    let o = c.hold-last in
+    let v = l.invariant in
+    let h = c.requires in
+    let e : length a.buffer.now ≤ l.end = omega arith in
+    let r = fed_all_lem v o.result _ o.ensures.0 e (omega arith) in
+    (r.0, (r.1, r.2, omega arith), o.ensures.1)

@@ -1,0 +1,21 @@
+use mathlib.Core.Path.{◌∙◌}
+use native.Mathlib.Omega.{arith}
+use lib.ListN.{length-take}
+use Rattle.input.proofs.Turns.{stored_is}
+use borrow.Author.Rules.{rules}
+use Rattle.input.proofs.feed_front.Goals as goal
+
+-- `feed_front` meets its contract. Assumes nothing.
+
+pub slice_bounds-feed_buffer-end : goal.slice_bounds-feed_buffer-end
+slice_bounds-feed_buffer-end c = simp length-take (omega arith)
+
+pub feed_buffer-fed-requires : goal.feed_buffer-fed-requires
+feed_buffer-fed-requires c = simp length-take (omega arith)
+
+pub returns : goal.returns
+returns c =
+    let f = c.feed_buffer-fed in
+    let l = c.clear in
+    let s = stored_is _ f.result.used (f.auto.1.0 ∙ c.requires.1) f.ensures.2 f.ensures.0 in
+    (l.ensures ∙ s.0, s.1, f.ensures.1)

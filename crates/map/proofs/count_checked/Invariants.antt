@@ -1,0 +1,13 @@
+use Prim.Native.Nat.{◌-◌}
+use native.Mathlib.Omega.{arith}
+use lib.ListN.{length}
+use Rattle.answers.specs.Rules.{map_words}
+use Rattle.map.proofs.Counting.{Counted, counted_none, counted_next, counted_all}
+use borrow.Author.Rules.{rules}
+use Rattle.map.proofs.count_checked.Given as goal
+
+abbrev pub invariant-loop-at : goal.invariant-loop-at
+invariant-loop-at l = Counted l.n l.map l.total l.left l.at
+
+abbrev pub decreases-loop-at : goal.decreases-loop-at
+decreases-loop-at l = length l.map - l.at

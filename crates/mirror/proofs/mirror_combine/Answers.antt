@@ -1,0 +1,6 @@
+use Rattle.mirror.proofs.Numbers.{renumber}
+use borrow.Author.Rules.{rules}
+use Rattle.mirror.proofs.mirror_combine.Goals as goal
+
+pub returns : goal.returns
+returns c = renumber c.combine.ensures c.done_number.ensures

@@ -1,0 +1,6 @@
+use Rattle.mirror.proofs.Numbers.{renumber}
+use borrow.Author.Rules.{rules}
+use Rattle.mirror.proofs.mirror_first_stage.Goals as goal
+
+pub returns : goal.returns
+returns c = renumber c.first_stage.ensures c.done_number.ensures

@@ -1,0 +1,6 @@
+use Rattle.mirror.proofs.Numbers.{renumber}
+use borrow.Author.Rules.{rules}
+use Rattle.mirror.proofs.mirror_mend.Goals as goal
+
+pub returns : goal.returns
+returns c = renumber c.mend.ensures c.judged_number.ensures

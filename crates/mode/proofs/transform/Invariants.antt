@@ -1,0 +1,17 @@
+use mathlib.Core.Path.{◌≡◌, refl, ap₂, ◌∙◌}
+use Prim.Native.Nat.{ℕ, ◌+◌, ◌-◌, ◌≤◌}
+use native.Mathlib.Omega.{arith}
+use borrow.Author.Rules.{rules}
+use Rattle.block.specs.Value.{value}
+use Rattle.fips197.specs.Aes.{cipher_number}
+use Rattle.mode.specs.Sealing.{times_x, pad}
+use Rattle.mode.specs.Transforms.{transformed}
+use Rattle.mode.proofs.Blockwise.{Written, written_none, written_next, written_all}
+use Rattle.mode.proofs.Laws.{mask_next, pad_is}
+use Rattle.mode.proofs.transform.Given as goal
+
+abbrev pub invariant-loop-j : goal.invariant-loop-j
+invariant-loop-j l = (l.j ≤ l.m) × (value l.mask ≡ times_x l.j (value l.initial.mask)) × Written (λ n v. transformed l.how (pad (cipher_number l.w) (value l.tag) n) v) l.x l.initial.out l.j l.out
+
+abbrev pub decreases-loop-j : goal.decreases-loop-j
+decreases-loop-j l = l.m - l.j

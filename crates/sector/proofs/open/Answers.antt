@@ -1,0 +1,7 @@
+use Rattle.sector.specs.Calls.{open_call}
+use borrow.Author.Rules.{rules}
+use Rattle.sector.proofs.open.Goals as goal
+
+pub returns : goal.returns
+unfolding open_call
+returns c = c.open_as.ensures

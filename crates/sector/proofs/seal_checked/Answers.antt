@@ -1,0 +1,12 @@
+use Rattle.mode.specs.Sealing.{sealed}
+use Rattle.mode.proofs.Preparing.{ready_context}
+use Rattle.sector.proofs.Prepared.{sealed_under}
+use borrow.Author.Rules.{rules}
+use Rattle.sector.proofs.seal_checked.Goals as goal
+
+pub seal_in-requires : goal.seal_in-requires
+seal_in-requires c = (search ready_context, search rules)
+
+pub returns : goal.returns
+unfolding sealed
+returns c = search sealed_under

@@ -1,0 +1,8 @@
+use mathlib.Core.Path.{refl}
+use Rattle.report.specs.Survey.{health}
+use borrow.Author.Rules.{rules}
+use Rattle.survey.proofs.thousandths.Goals as goal
+
+pub returns : goal.returns
+unfolding health
+returns c = refl

@@ -1,0 +1,8 @@
+use Rattle.text.proofs.Digits.{known}
+use borrow.Author.Rules.{rules}
+use Rattle.text.proofs.known_value.Goals as goal
+
+-- `known_value` meets its contract. Assumes nothing.
+
+pub returns : goal.returns
+returns c = known c.args.c c.requires

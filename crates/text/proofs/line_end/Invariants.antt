@@ -1,0 +1,13 @@
+use mathlib.Core.Path.{◌≡◌, refl}
+use Prim.Native.Nat.{◌+◌, ◌-◌}
+use native.Mathlib.Omega.{arith}
+use lib.ListN.{length, drop}
+use Rattle.text.specs.Lines.{stretch}
+use Rattle.text.proofs.Stretches.{stretch_feed, stretch_byte, stretch_end}
+use Rattle.text.proofs.line_end.Given as goal
+
+abbrev pub invariant-loop-end : goal.invariant-loop-end
+invariant-loop-end l = l.end + stretch (drop l.end l.buffer) ≡ l.at + stretch (drop l.at l.buffer)
+
+abbrev pub decreases-loop-end : goal.decreases-loop-end
+decreases-loop-end l = length l.buffer - l.end
