@@ -2,13 +2,38 @@
 // What a turn prints and does next is `input::turn`; here is only the reading and the writing.
 #![tactic(auto)]
 
-ghost use Rattle.std.specs.Prelude.{◌≡◌, true, ◌≤◌, length};
+ghost use Rattle.std.specs.Prelude.{◌≡◌, true, Some, ◌≤◌, length, take, IfOk, OnOk, OnErr, IfErr};
+ghost use Rattle.std.specs.Io.KnownBytes.{Appends};
+ghost use Rattle.input.specs.Turn.{read_of};
+ghost use Rattle.frames.specs.Answered.{AnswersAll, AnswersSoFar, AnswersTurns, AnswersUntil, Fails, Gives, Turns, WritesPart, text_of};
 
 use input::Next;
-use libc::{STDERR_FILENO, STDIN_FILENO, STDOUT_FILENO};
+use std::io::{ErrorKind, Read, Write};
+use std::process::ExitCode;
+use std::{fmt, io};
 
 // Nothing says that an input ends, and a proved loop has to. No run comes to this many turns.
 const MOST_TURNS: u64 = u64::MAX;
+
+// Why the program stops before the end of its input.
+#[derive(Clone, Copy, Debug, PartialEq, Eq)]
+enum Failure {
+    Read,
+    Write(ErrorKind),
+    TooManyReads,
+}
+
+impl fmt::Display for Failure {
+    ghost output = { λ failure. Some (text_of failure) };
+
+    fn fmt<W: fmt::Write>(&self, f: &mut fmt::Formatter<W>) -> fmt::Result {
+        match self {
+            Failure::Read => write!(f, "cannot read"),
+            Failure::Write(_) => write!(f, "cannot write"),
+            Failure::TooManyReads => write!(f, "stopped after too many reads"),
+        }
+    }
+}
 
 // What a turn leaves: how many bytes of a line that has not ended are held, and whether the program reads on.
 #[derive(Clone, Copy)]
@@ -24,6 +49,11 @@ struct Stop {
     turns: u64,
 }
 
+// Room for what a read gives.
+fn buffer_room() -> [u8; 65536] {
+    [0; 65536]
+}
+
 // Room for as much of a line as is ever held.
 fn line_room() -> [u8; 16499] {
     [0; 16499]
@@ -34,70 +64,130 @@ fn out_room() -> [u8; 213107] {
     [0; 213107]
 }
 
-// Prints the first n bytes of a text. Whether all were written.
-fn print(text: &[u8], n: usize) -> bool
-    requires { n ≤ length text.now }
+// How many bytes a read gave, and −1 where it failed, as `input::turn` takes it.
+fn read<R: Read>(reader: &mut R, buffer: &mut [u8; 65536]) -> isize
+    ensures { Gives (R.remaining reader.old) (R.remaining reader.new) (read_of result buffer.new) }
 {
-    if io::write_all(STDOUT_FILENO, &text[..n]) {
-        return true;
+    match reader.read(buffer) {
+        Ok(n) => n as isize,
+        Err(_) => -1,
     }
-    io::write_all(STDERR_FILENO, b"frames: cannot write\n");
-    false
+}
+
+// Writes a text. std's `write_all` says nothing of what it wrote before it failed.
+fn write_all<W: Write>(writer: &mut W, text: &[u8]) -> io::Result<()>
+    ensures all { OnOk result (Appends (W.contents writer.old) (W.contents writer.new) text.now) }
+    ensures part { OnErr result (WritesPart (W.contents writer.old) (W.contents writer.new) text.now) }
+{
+    let mut written = 0;
+    while written < text.len() {
+        let n = writer.write(&text[written..])?;
+        if n == 0 {
+            return Err(io::Error::from(ErrorKind::WriteZero));
+        }
+        written += n;
+    }
+    Ok(())
+}
+
+// Prints the first n bytes of a text, at once: who sent a line may wait for its answer.
+fn print<W: Write>(writer: &mut W, text: &[u8], n: usize) -> io::Result<()>
+    requires { n ≤ length text.now }
+    ensures all { OnOk result (Appends (W.contents writer.old) (W.contents writer.new) (take n text.now)) }
+    ensures part { OnErr result (WritesPart (W.contents writer.old) (W.contents writer.new) (take n text.now)) }
+{
+    write_all(writer, &text[..n])?;
+    writer.flush()
 }
 
 // One read, the turn that it gives, and one write.
-fn step(
+fn step<R: Read, W: Write>(
+    reader: &mut R,
+    writer: &mut W,
     buffer: &mut [u8; 65536],
     line: &mut [u8; 16499],
     used: usize,
     out: &mut [u8; 213107],
-) -> State {
-    let got = libc::read(STDIN_FILENO, buffer);
+) -> Result<State, Failure>
+    ensures ok { IfOk result (λ state. Turns (take used line.old) (take state.used line.new) state.more
+        (R.remaining reader.old) (R.remaining reader.new) (W.contents writer.old) (W.contents writer.new)) }
+    ensures err { IfErr result (λ failure. Fails failure (take used line.old)
+        (R.remaining reader.old) (R.remaining reader.new) (W.contents writer.old) (W.contents writer.new)) }
+{
+    let got = read(reader, buffer);
     let turn = input::turn(got, buffer, line, used, out);
-    let written = print(out, turn.printed);
     let held = turn.used;
     let next = turn.next;
+    if let Err(e) = print(writer, out, turn.printed) {
+        return Err(Failure::Write(e.kind()));
+    }
     match next {
-        Next::ReadOn => State {
+        Next::ReadOn => Ok(State {
             used: held,
-            more: written,
-        },
-        Next::Ended => State {
+            more: true,
+        }),
+        Next::Ended => Ok(State {
             used: held,
             more: false,
-        },
-        Next::Failed => {
-            io::write_all(STDERR_FILENO, b"frames: cannot read\n");
-            State {
-                used: held,
-                more: false,
-            }
-        }
+        }),
+        Next::Failed => Err(Failure::Read),
     }
 }
 
 // Takes turns as long as the program reads on. Only 2^64 − 1 turns stop one that would.
-fn run(buffer: &mut [u8; 65536], line: &mut [u8; 16499], out: &mut [u8; 213107]) -> Stop
-    ensures { result.more ≡ true → 18446744073709551615 ≤ result.turns }
+fn run<R: Read, W: Write>(
+    reader: &mut R,
+    writer: &mut W,
+    buffer: &mut [u8; 65536],
+    line: &mut [u8; 16499],
+    out: &mut [u8; 213107],
+) -> Result<Stop, Failure>
+    ensures most { IfOk result (λ stop. stop.more ≡ true → 18446744073709551615 ≤ stop.turns) }
+    ensures ok { IfOk result (λ stop. AnswersSoFar stop.more
+        (R.remaining reader.old) (R.remaining reader.new) (W.contents writer.old) (W.contents writer.new)) }
+    ensures err { IfErr result (λ failure. AnswersTurns failure
+        (R.remaining reader.old) (R.remaining reader.new) (W.contents writer.old) (W.contents writer.new)) }
 {
     let mut used: usize = 0;
-    let mut more = true;
     let mut turns: u64 = 0;
-    while more && turns < MOST_TURNS {
-        let t = step(buffer, line, used, out);
-        used = t.used;
-        more = t.more;
+    while turns < MOST_TURNS {
+        let t = step(reader, writer, buffer, line, used, out)?;
         turns += 1;
+        if !t.more {
+            return Ok(Stop { more: false, turns });
+        }
+        used = t.used;
     }
-    Stop { more, turns }
+    Ok(Stop { more: true, turns })
 }
 
-fn main() {
-    let mut buffer = io::large_buffer();
+// Answers all of a reader's lines.
+fn answer<R: Read, W: Write>(reader: &mut R, writer: &mut W) -> Result<(), Failure>
+    ensures ok { OnOk result (AnswersAll
+        (R.remaining reader.old) (R.remaining reader.new) (W.contents writer.old) (W.contents writer.new)) }
+    ensures err { IfErr result (λ failure. AnswersUntil failure
+        (R.remaining reader.old) (R.remaining reader.new) (W.contents writer.old) (W.contents writer.new)) }
+{
+    let mut buffer = buffer_room();
     let mut line = line_room();
     let mut out = out_room();
-    let stop = run(&mut buffer, &mut line, &mut out);
+    let stop = run(reader, writer, &mut buffer, &mut line, &mut out)?;
     if stop.more {
-        io::write_all(STDERR_FILENO, b"frames: stopped after too many reads\n");
+        return Err(Failure::TooManyReads);
+    }
+    Ok(())
+}
+
+fn main(rt: HostRuntime) -> ExitCode {
+    let mut reader = rt.reader();
+    let mut writer = io::writer(&rt);
+    match answer(&mut reader, &mut writer) {
+        Ok(()) => ExitCode::SUCCESS,
+        // Nobody reads the answers any more: no fault, and the status is that of a tool which the signal SIGPIPE ends.
+        Err(Failure::Write(ErrorKind::BrokenPipe)) => ExitCode::from(141),
+        Err(failure) => {
+            let _ = eprintln!(rt; "frames: {failure}");
+            ExitCode::FAILURE
+        }
     }
 }

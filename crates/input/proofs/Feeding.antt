@@ -11,7 +11,7 @@ use lib.Seq.{take_all, length-take-le}
 use borrow.Author.Tests.{eq-eqb, ne_eqb}
 use Rattle.line.specs.Line.{print_line}
 use Rattle.line.proofs.Refusals.{long_line}
-use Rattle.input.specs.Lines.{lines_from, at_end, print_lines, print_input, held, fed, finished, fed_all, concat, FeedsWhole}
+use Rattle.input.specs.Lines.{lines_from, at_end, print_lines, print_input, print_ended, held, printing, fed, finished, fed_all, concat, FeedsWhole}
 
 -- ---- what is held of a line is enough
 
@@ -116,3 +116,32 @@ feeds_line (b ∷ bs) line =
 pub feeds_whole : FeedsWhole
 unfolding print_input held
 feeds_whole bs = feeds_line bs []
+
+-- ---- an input in two parts, and what is printed of it so far
+
+fed_append_go : (line : List ℕ) (c : ℕ) (a b : List ℕ) (t : Bool) → eqb c 10 ≡ t
+    → ((l : List ℕ) → fed l (a ++ b) ≡ printing (fed l a).printed (fed (fed l a).rest b))
+    → fed line (c ∷ (a ++ b)) ≡ printing (fed line (c ∷ a)).printed (fed (fed line (c ∷ a)).rest b)
+unfolding fed
+fed_append_go line c a b true e r =
+    rw e
+    (ap (printing (print_line line)) (r [])
+    ∙ ap (λ (p : List ℕ). record { rest = (fed (fed [] a).rest b).rest; printed = p })
+    (sym (append_assoc (print_line line) (fed [] a).printed (fed (fed [] a).rest b).printed)))
+fed_append_go line c a b false e r = rw e (r (held (line ++ (c ∷ []))))
+
+pub fed_append : (line a b : List ℕ) → fed line (a ++ b) ≡ printing (fed line a).printed (fed (fed line a).rest b)
+unfolding fed
+fed_append line [] b = refl
+fed_append line (c ∷ a) b = fed_append_go line c a b (eqb c 10) refl (λ l. fed_append l a b)
+
+pub print_ended_is : (input : List ℕ) → print_ended input ≡ (fed [] input).printed
+unfolding print_ended held lines_from print_lines
+print_ended_is input =
+    ap (λ (l : List ℕ). print_lines (lines_from (λ line. []) [] l)) (sym (append-nil input))
+    ∙ sym ((buffer [] input).printed (λ line. []) [])
+    ∙ append-nil (fed [] input).printed
+
+pub print_input_is : (input : List ℕ) → print_input input ≡ (fed [] input).printed ++ finished (fed [] input).rest
+unfolding fed_all
+print_input_is input = ap print_input (sym (append-nil input)) ∙ sym (feeds_whole (input ∷ []))

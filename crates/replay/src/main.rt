@@ -5,9 +5,11 @@
 // slices so.
 #![tactic(auto)]
 
-ghost use Rattle.std.specs.Prelude.{◌≡◌, ◌+◌, ◌≤◌, ◌<◌, length};
+ghost use Rattle.std.specs.Prelude.{◌≡◌, ◌+◌, ◌≤◌, ◌<◌, length, take, IfOk};
+ghost use Rattle.std.specs.Io.KnownBytes.{Consumes, IsAtEnd};
 
-use libc::{STDIN_FILENO, STDOUT_FILENO};
+use std::io;
+use std::io::Read;
 
 const SEAL: u8 = 0;
 
@@ -233,7 +235,7 @@ fn agrees(kind: u8, frame: &[u8], n: usize) -> bool
         let before = field(frame, n);
         let size = before.len();
         if size <= 4096 {
-            let mut out = io::buffer();
+            let mut out = [0u8; 4096];
             return agrees_in(kind, frame, n, &mut out[..size]);
         }
     }
@@ -274,9 +276,9 @@ fn seal_agrees_at(frame: &[u8], l: usize, r: usize, g: usize) -> bool {
     if l <= 4096 {
         if r <= 4096 {
             if g <= 4096 {
-                let mut local = io::buffer();
-                let mut remote = io::buffer();
-                let mut tag = io::buffer();
+                let mut local = [0u8; 4096];
+                let mut remote = [0u8; 4096];
+                let mut tag = [0u8; 4096];
                 return seal_agrees_in(frame, &mut local[..l], &mut remote[..r], &mut tag[..g]);
             }
         }
@@ -319,7 +321,7 @@ fn line_agrees_in(kind: u8, line: &[u8], frame: &mut [u8]) -> bool {
 fn line_agrees(kind: u8, line: &[u8]) -> bool {
     let size = line.len() / 2;
     if size <= 65536 {
-        let mut frame = io::large_buffer();
+        let mut frame = [0u8; 65536];
         return line_agrees_in(kind, line, &mut frame[..size]);
     }
     false
@@ -352,57 +354,46 @@ fn line_after(input: &[u8], at: usize, end: usize) -> usize
 
 // ---- the report
 
-fn print_name(kind: u8) {
-    if kind == SEAL {
-        io::write_all(STDOUT_FILENO, b"seal");
-    }
-    if kind == JUDGE {
-        io::write_all(STDOUT_FILENO, b"judge");
-    }
-    if kind == OPEN {
-        io::write_all(STDOUT_FILENO, b"open");
-    }
-    if kind == REBUILD {
-        io::write_all(STDOUT_FILENO, b"rebuild");
-    }
-    if kind == COMBINE {
-        io::write_all(STDOUT_FILENO, b"combine");
-    }
-    if kind == UNKNOWN {
-        io::write_all(STDOUT_FILENO, b"unknown");
+fn print_name(rt: &impl Print, kind: u8) -> io::Result<()> {
+    match kind {
+        SEAL => print!(rt; "seal"),
+        JUDGE => print!(rt; "judge"),
+        OPEN => print!(rt; "open"),
+        REBUILD => print!(rt; "rebuild"),
+        COMBINE => print!(rt; "combine"),
+        UNKNOWN => print!(rt; "unknown"),
+        _ => Ok(()),
     }
 }
 
-fn print_difference(kind: u8, n: usize) {
-    print_name(kind);
-    io::write_all(STDOUT_FILENO, b" differs in line ");
-    io::print_decimal(STDOUT_FILENO, n as u64);
-    io::write_all(STDOUT_FILENO, b"\n");
+fn print_difference(rt: &impl Print, kind: u8, n: usize) -> io::Result<()> {
+    print_name(rt, kind)?;
+    println!(rt; " differs in line {n}")
 }
 
 // Counts a line if it is of this kind, and says where it differs. It is the n-th line.
-fn counted(tally: Tally, kind: u8, line: &[u8], n: usize) -> Tally
+fn counted(rt: &impl Print, tally: Tally, kind: u8, line: &[u8], n: usize) -> io::Result<Tally>
     requires { tally.agreed + tally.differ < n }
-    ensures { result.agreed + result.differ ≤ n }
+    ensures { IfOk result (λ counted. counted.agreed + counted.differ ≤ n) }
 {
     if kind_of(line) != kind {
-        return tally;
+        return Ok(tally);
     }
     if line_agrees(kind, line) {
-        return Tally {
+        return Ok(Tally {
             agreed: tally.agreed + 1,
             differ: tally.differ,
-        };
+        });
     }
-    print_difference(kind, n);
-    Tally {
+    print_difference(rt, kind, n)?;
+    Ok(Tally {
         agreed: tally.agreed,
         differ: tally.differ + 1,
-    }
+    })
 }
 
 // Replays the lines of one kind.
-fn replay(input: &[u8], kind: u8) -> Tally {
+fn replay(rt: &impl Print, input: &[u8], kind: u8) -> io::Result<Tally> {
     let mut tally = Tally {
         agreed: 0,
         differ: 0,
@@ -412,32 +403,30 @@ fn replay(input: &[u8], kind: u8) -> Tally {
     while at < input.len() {
         let end = text::line_end(input, at);
         n += 1;
-        tally = counted(tally, kind, &input[at..end], n);
+        tally = counted(rt, tally, kind, &input[at..end], n)?;
         at = line_after(input, at, end);
     }
-    tally
+    Ok(tally)
 }
 
-fn report(input: &[u8], kind: u8) {
-    let tally = replay(input, kind);
-    print_name(kind);
-    io::write_all(STDOUT_FILENO, b" ");
-    io::print_decimal(STDOUT_FILENO, tally.agreed as u64);
-    io::write_all(STDOUT_FILENO, b" agreed ");
-    io::print_decimal(STDOUT_FILENO, tally.differ as u64);
-    io::write_all(STDOUT_FILENO, b" differ\n");
+fn report(rt: &impl Print, input: &[u8], kind: u8) -> io::Result<()> {
+    let tally = replay(rt, input, kind)?;
+    print_name(rt, kind)?;
+    let agreed = tally.agreed;
+    let differ = tally.differ;
+    println!(rt; " {agreed} agreed {differ} differ")
 }
 
-fn report_all(input: &[u8]) {
+fn report_all(rt: &impl Print, input: &[u8]) -> io::Result<()> {
     if input.len() == 1048576 {
-        io::write_all(STDOUT_FILENO, b"the input is too long\n");
+        println!(rt; "the input is too long")?;
     }
-    report(input, SEAL);
-    report(input, JUDGE);
-    report(input, OPEN);
-    report(input, REBUILD);
-    report(input, COMBINE);
-    report(input, UNKNOWN);
+    report(rt, input, SEAL)?;
+    report(rt, input, JUDGE)?;
+    report(rt, input, OPEN)?;
+    report(rt, input, REBUILD)?;
+    report(rt, input, COMBINE)?;
+    report(rt, input, UNKNOWN)
 }
 
 // Room for the whole input.
@@ -447,8 +436,25 @@ fn room() -> [u8; 1048576]
     [0; 1048576]
 }
 
-fn main() {
+// Reads until the room is full or the input ends, and gives how many bytes that is.
+fn read_full<R: Read>(reader: &mut R, room: &mut [u8]) -> io::Result<usize>
+    ensures within { IfOk result (λ n. n ≤ length room.new) }
+    ensures bytes { IfOk result (λ n. Consumes (R.remaining reader.old) (R.remaining reader.new) (take n room.new)) }
+    ensures end { IfOk result (λ n. n < length room.new → IsAtEnd (R.remaining reader.new)) }
+{
+    let mut size = 0;
+    while size < room.len() {
+        let n = reader.read(&mut room[size..])?;
+        if n == 0 {
+            break;
+        }
+        size += n;
+    }
+    Ok(size)
+}
+
+fn main(rt: HostRuntime) -> io::Result<()> {
     let mut space = room();
-    let size = io::read_full(STDIN_FILENO, &mut space);
-    report_all(&space[..size]);
+    let size = read_full(&mut rt.reader(), &mut space)?;
+    report_all(&rt, &space[..size])
 }

@@ -7,7 +7,7 @@ ghost use Rattle.block.specs.Value.{value};
 ghost use Rattle.fips197.specs.Aes.{expand, cipher_number};
 
 use block::Block;
-use libc::STDOUT_FILENO;
+use std::io;
 
 fn encrypted(key: &[u8], b: Block) -> Block
     requires { length key.now ≡ 16 }
@@ -19,35 +19,38 @@ fn encrypted(key: &[u8], b: Block) -> Block
     aes::encrypt(&t, &w, b)
 }
 
-fn print_block(b: Block) {
-    io::print_hex(STDOUT_FILENO, b.hi, 16);
-    io::print_hex(STDOUT_FILENO, b.lo, 16);
+fn print_block(rt: &impl Print, b: Block) -> io::Result<()> {
+    let hi = b.hi;
+    let lo = b.lo;
+    print!(rt; "{hi:016x}{lo:016x}")
 }
 
-fn print_example(key: &[u8], b: Block)
+fn print_example(rt: &impl Print, key: &[u8], b: Block) -> io::Result<()>
     requires { length key.now ≡ 16 }
 {
-    print_block(block::load(key, 0));
-    io::write_all(STDOUT_FILENO, b" ");
-    print_block(b);
-    io::write_all(STDOUT_FILENO, b" ");
-    print_block(encrypted(key, b));
-    io::write_all(STDOUT_FILENO, b"\n");
+    print_block(rt, block::load(key, 0))?;
+    print!(rt; " ")?;
+    print_block(rt, b)?;
+    print!(rt; " ")?;
+    print_block(rt, encrypted(key, b))?;
+    println!(rt)
 }
 
-fn main() {
+fn main(rt: HostRuntime) -> io::Result<()> {
     print_example(
+        &rt,
         b"\x2b\x7e\x15\x16\x28\xae\xd2\xa6\xab\xf7\x15\x88\x09\xcf\x4f\x3c",
         Block {
             hi: 0x3243_f6a8_885a_308d,
             lo: 0x3131_98a2_e037_0734,
         },
-    );
+    )?;
     print_example(
+        &rt,
         b"\x00\x01\x02\x03\x04\x05\x06\x07\x08\x09\x0a\x0b\x0c\x0d\x0e\x0f",
         Block {
             hi: 0x0011_2233_4455_6677,
             lo: 0x8899_aabb_ccdd_eeff,
         },
-    );
+    )
 }

@@ -1,8 +1,5 @@
-use Prim.Native.Nat.{◌-◌}
 use native.Mathlib.Omega.{arith}
-use lib.ListN.{length}
-use Rattle.input.proofs.Turns.{Clearing, clearing_start, clearing_turn, clearing_end}
-use borrow.Author.Rules.{rules}
+use Rattle.input.proofs.Turns.{clearing_start, clearing_turn, clearing_end}
 use Rattle.input.proofs.clear.Goals as goal
 
 -- `clear` meets its contract. Assumes nothing.

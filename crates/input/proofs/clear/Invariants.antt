@@ -1,8 +1,6 @@
 use Prim.Native.Nat.{◌-◌}
-use native.Mathlib.Omega.{arith}
 use lib.ListN.{length}
-use Rattle.input.proofs.Turns.{Clearing, clearing_start, clearing_turn, clearing_end}
-use borrow.Author.Rules.{rules}
+use Rattle.input.proofs.Turns.{Clearing}
 use Rattle.input.proofs.clear.Given as goal
 
 abbrev pub invariant-loop-i : goal.invariant-loop-i

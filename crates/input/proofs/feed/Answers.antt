@@ -3,7 +3,6 @@ use native.Mathlib.Omega.{arith}
 use Rattle.input.specs.Lines.{fed}
 use Rattle.input.proofs.Stretches.{take_least}
 use Rattle.input.proofs.Turns.{refeed}
-use borrow.Author.Rules.{rules}
 use Rattle.input.proofs.feed.Goals as goal
 
 -- `feed` meets its contract: no more than there is of the buffer is fed, and no more than there is of the line is held. Assumes nothing.

@@ -1,9 +1,9 @@
 use mathlib.Core.Path.{sym, ◌∙◌}
-use Prim.Native.Nat.{◌-◌, ◌≤◌}
+use Prim.Native.Nat.{◌≤◌}
 use native.Mathlib.Omega.{arith}
 use lib.ListN.{length, length-take, length-drop}
 use borrow.Author.Rules.{rules}
-use Rattle.input.proofs.Stretches.{SoFar, so_far_none, so_far_next, fed_all_lem}
+use Rattle.input.proofs.Stretches.{so_far_none, so_far_next, fed_all_lem}
 use Rattle.input.proofs.feed_buffer.Goals as goal
 
 -- `feed_buffer` meets its contract. The loop's invariant is `SoFar`: what is printed, and what feeding the rest gives, is what feeding the whole
@@ -46,7 +46,7 @@ loop-end-preserved c =
     let v = l.invariant in
     let h = c.requires in
     so_far_next v o.result _ o.ensures.0 (omega arith)
-    p.result _ c.line_end-end-in-loop-end.result (o.auto.1.0 ∙ v.line_long) (omega arith) p.auto.1.1.0
+    p.result _ c.line_end-end-in-loop-end.result (o.auto.line ∙ v.line_long) (omega arith) p.auto.out
     p.ensures.0 p.ensures.1 p.ensures.2 (omega arith) c.line_end-end-in-loop-end.ensures
 
 pub slice_bounds-hold-count-2 : goal.slice_bounds-hold-count-2

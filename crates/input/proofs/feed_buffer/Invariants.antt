@@ -1,9 +1,6 @@
-use mathlib.Core.Path.{sym, ◌∙◌}
-use Prim.Native.Nat.{◌-◌, ◌≤◌}
-use native.Mathlib.Omega.{arith}
-use lib.ListN.{length, length-take, length-drop}
-use borrow.Author.Rules.{rules}
-use Rattle.input.proofs.Stretches.{SoFar, so_far_none, so_far_next, fed_all_lem}
+use Prim.Native.Nat.{◌-◌}
+use lib.ListN.{length}
+use Rattle.input.proofs.Stretches.{SoFar}
 use Rattle.input.proofs.feed_buffer.Given as goal
 
 abbrev pub invariant-loop-end : goal.invariant-loop-end

@@ -2,7 +2,6 @@ use mathlib.Core.Path.{◌∙◌}
 use native.Mathlib.Omega.{arith}
 use lib.ListN.{length-take}
 use Rattle.input.proofs.Turns.{stored_is}
-use borrow.Author.Rules.{rules}
 use Rattle.input.proofs.feed_front.Goals as goal
 
 -- `feed_front` meets its contract. Assumes nothing.
@@ -17,5 +16,5 @@ pub returns : goal.returns
 returns c =
     let f = c.feed_buffer-fed in
     let l = c.clear in
-    let s = stored_is _ f.result.used (f.auto.1.0 ∙ c.requires.1) f.ensures.2 f.ensures.0 in
+    let s = stored_is _ f.result.used (f.auto.line ∙ c.requires.1) f.ensures.2 f.ensures.0 in
     (l.ensures ∙ s.0, s.1, f.ensures.1)

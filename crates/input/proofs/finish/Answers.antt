@@ -7,7 +7,6 @@ use Rattle.line.specs.Line.{print_line}
 use Rattle.input.proofs.Feeding.{finished_none, finished_some}
 use Rattle.line.proofs.Showing.{reprint}
 use Rattle.input.proofs.Stretches.{take_least}
-use borrow.Author.Rules.{rules}
 use Rattle.input.proofs.finish.Goals as goal
 
 -- `finish` meets its contract. Assumes nothing.

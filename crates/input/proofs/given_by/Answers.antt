@@ -34,4 +34,4 @@ pub overflow_cast-result : goal.overflow_cast-result
 overflow_cast-result c = (not_negative (to_z w64 (of_z w64 c.args.got)) c.if-got-lt0.false, Fits-nat_abs {w = w64} {w' = w64} tt (sfits_to_z (Fits-of_z c.ranges.got)))
 
 pub returns : goal.returns
-returns c = counted (to_z w64 (of_z w64 c.args.got)) (cast-t3 c).0 ∙ ap given_of (to_z-of_z c.ranges.got)
+returns c = counted (to_z w64 (of_z w64 c.args.got)) (not_negative (to_z w64 (of_z w64 c.args.got)) c.if-got-lt0.false) ∙ ap given_of (to_z-of_z c.ranges.got)

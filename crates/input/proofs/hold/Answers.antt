@@ -5,7 +5,6 @@ use native.Mathlib.Omega.{arith}
 use lib.ListN.{take, length-take, length-drop}
 use borrow.Rule.Slice.PartMut.{put_mid}
 use Rattle.input.proofs.Stretches.{hold_part}
-use borrow.Author.Rules.{rules}
 use Rattle.input.proofs.hold.Goals as goal
 
 -- `hold` meets its contract: one copy of as much as there is room for. Assumes nothing.

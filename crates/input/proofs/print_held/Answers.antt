@@ -5,7 +5,6 @@ use lib.ListN.{length, take, length-take, length-drop}
 use borrow.Rule.Slice.PartMut.{put_mid}
 use Rattle.line.specs.Line.{print_line}
 use Rattle.input.proofs.Stretches.{put_behind}
-use borrow.Author.Rules.{rules}
 use Rattle.input.proofs.print_held.Goals as goal
 
 -- `print_held` meets its contract: the line is printed into what is left of `out`. Assumes nothing.

@@ -7,7 +7,6 @@ use mir.Facts.{to_z-of_z}
 use Rattle.input.specs.Inner.{given_of}
 use Rattle.input.specs.declared.Given.{Given}
 use Rattle.input.proofs.Turns.{turn_failed, turn_ended, turn_fed}
-use borrow.Author.Rules.{rules}
 use Rattle.input.proofs.turn.Goals as goal
 
 -- `turn` meets its contract. Assumes nothing.
