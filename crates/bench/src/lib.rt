@@ -33,8 +33,7 @@ fn encrypt_chain(t: &Table, w: &[u32], b: Block, n: u64) -> Block
 }
 
 // The same under a key for AES-128, or 0 if it has not 16 bytes.
-#[unsafe(no_mangle)]
-pub extern "C" fn bench_encrypt(key: &[u8], hi: u64, lo: u64, n: u64) -> u64
+pub fn bench_encrypt(key: &[u8], hi: u64, lo: u64, n: u64) -> u64
     ensures { length key.now ≡ 16 →
         result ≡ folded (iterate n (cipher_number (expand 4 10 key.now)) (hi * 2 ^ 64 + lo)) }
 {
@@ -60,8 +59,7 @@ fn mul_chain(a: Block, b: Block, n: u64) -> Block
     acc
 }
 
-#[unsafe(no_mangle)]
-pub extern "C" fn bench_mul(ahi: u64, alo: u64, bhi: u64, blo: u64, n: u64) -> u64
+pub fn bench_mul(ahi: u64, alo: u64, bhi: u64, blo: u64, n: u64) -> u64
     ensures { result ≡ folded (iterate n (product (bhi * 2 ^ 64 + blo)) (ahi * 2 ^ 64 + alo)) }
 {
     let a = Block { hi: ahi, lo: alo };
@@ -87,8 +85,7 @@ fn hash_chain(p: &[u64; 18], x: &[u8], n: u64) -> Block
 }
 
 // n such hashes, or 0 if x has no block or more than 4096 bytes.
-#[unsafe(no_mangle)]
-pub extern "C" fn bench_brw(hhi: u64, hlo: u64, x: &[u8], n: u64) -> u64
+pub fn bench_brw(hhi: u64, hlo: u64, x: &[u8], n: u64) -> u64
     ensures { 16 ≤ length x.now → length x.now ≤ 4096 →
         result ≡ folded (iterate n (hashed (hhi * 2 ^ 64 + hlo) x.now) 0) }
 {

@@ -1,5 +1,5 @@
-// The C interface. Each function's contract is that of the call that it names, with the answer as document 01's number: 0 for whole or done,
-// 81, 82 or 83 (hexadecimal) for doubt at local, tag or remote, or the refusal.
+// The calls of the C interface, which `mirror_c` exports. Each function's contract is that of the call that it names, with the answer as
+// document 01's number: 0 for whole or done, 81, 82 or 83 (hexadecimal) for doubt at local, tag or remote, or the refusal.
 #![tactic(auto)]
 
 ghost use Rattle.std.specs.Prelude.{◌≡◌};
@@ -19,8 +19,7 @@ use answers::{Done, Judged};
 use report::{Counts, Surveyed};
 
 // The release that the library is of, 0.8.0, so that a program can tell whether it is the one that the program was compiled for.
-#[unsafe(no_mangle)]
-pub extern "C" fn mirror_version() -> u32
+pub fn mirror_version() -> u32
     ensures { result ≡ release 0 8 0 }
 {
     8000
@@ -38,8 +37,7 @@ fn judged_number(j: Judged) -> u32
     answers::judged_number(j) as u32
 }
 
-#[unsafe(no_mangle)]
-pub extern "C" fn mirror_seal(
+pub fn mirror_seal(
     key: &[u8],
     volume: u64,
     address: u64,
@@ -53,8 +51,7 @@ pub extern "C" fn mirror_seal(
     done_number(sector::seal(key, volume, address, plain, local, tag, remote))
 }
 
-#[unsafe(no_mangle)]
-pub extern "C" fn mirror_judge(
+pub fn mirror_judge(
     key: &[u8],
     volume: u64,
     address: u64,
@@ -68,8 +65,7 @@ pub extern "C" fn mirror_judge(
     judged_number(sector::judge(key, volume, address, local, tag, remote, out))
 }
 
-#[unsafe(no_mangle)]
-pub extern "C" fn mirror_open(
+pub fn mirror_open(
     key: &[u8],
     volume: u64,
     address: u64,
@@ -83,8 +79,7 @@ pub extern "C" fn mirror_open(
     done_number(sector::open(key, volume, address, side, sector, tag, out))
 }
 
-#[unsafe(no_mangle)]
-pub extern "C" fn mirror_rebuild(
+pub fn mirror_rebuild(
     key: &[u8],
     volume: u64,
     address: u64,
@@ -98,15 +93,13 @@ pub extern "C" fn mirror_rebuild(
     done_number(sector::rebuild(key, volume, address, side, sector, tag, out))
 }
 
-#[unsafe(no_mangle)]
-pub extern "C" fn mirror_combine(local: &[u8], remote: &[u8], out: &mut [u8]) -> u32
+pub fn mirror_combine(local: &[u8], remote: &[u8], out: &mut [u8]) -> u32
     ensures { combine_call local.now remote.now out.old ≡ (result, out.new) }
 {
     done_number(sector::combine(local, remote, out))
 }
 
-#[unsafe(no_mangle)]
-pub extern "C" fn mirror_blank(
+pub fn mirror_blank(
     key: &[u8],
     volume: u64,
     s: usize,
@@ -122,8 +115,7 @@ pub extern "C" fn mirror_blank(
     done_number(mapped::blank(key, volume, s, n, number, local, tags, remote, map))
 }
 
-#[unsafe(no_mangle)]
-pub extern "C" fn mirror_first_stage(
+pub fn mirror_first_stage(
     key: &[u8],
     volume: u64,
     s: usize,
@@ -140,8 +132,7 @@ pub extern "C" fn mirror_first_stage(
     done_number(mapped::first_stage(key, volume, s, n, number, plain, local, tags, remote, map))
 }
 
-#[unsafe(no_mangle)]
-pub extern "C" fn mirror_second_stage(
+pub fn mirror_second_stage(
     key: &[u8],
     volume: u64,
     s: usize,
@@ -158,8 +149,7 @@ pub extern "C" fn mirror_second_stage(
     done_number(mapped::second_stage(key, volume, s, n, number, plain, local, tags, remote, map))
 }
 
-#[unsafe(no_mangle)]
-pub extern "C" fn mirror_third_stage(
+pub fn mirror_third_stage(
     key: &[u8],
     volume: u64,
     s: usize,
@@ -176,8 +166,7 @@ pub extern "C" fn mirror_third_stage(
     done_number(mapped::third_stage(key, volume, s, n, number, plain, local, tags, remote, map))
 }
 
-#[unsafe(no_mangle)]
-pub extern "C" fn mirror_read(
+pub fn mirror_read(
     key: &[u8],
     volume: u64,
     s: usize,
@@ -194,8 +183,7 @@ pub extern "C" fn mirror_read(
     judged_number(mapped::read(key, volume, s, n, number, local, tags, remote, map, out))
 }
 
-#[unsafe(no_mangle)]
-pub extern "C" fn mirror_mend(
+pub fn mirror_mend(
     key: &[u8],
     volume: u64,
     s: usize,
@@ -212,8 +200,7 @@ pub extern "C" fn mirror_mend(
 }
 
 // The write in one call: what each of its calls wrote has to land before the next begins, or power must not go within it.
-#[unsafe(no_mangle)]
-pub extern "C" fn mirror_write(
+pub fn mirror_write(
     key: &[u8],
     volume: u64,
     s: usize,
@@ -243,8 +230,7 @@ fn count_numbers(c: Counts) -> [u64; 5]
 }
 
 // `counts` is given whole, doubtful, clashing, lost and the health; `list` is in repair order.
-#[unsafe(no_mangle)]
-pub extern "C" fn mirror_survey(
+pub fn mirror_survey(
     key: &[u8],
     volume: u64,
     s: usize,
@@ -269,16 +255,14 @@ pub extern "C" fn mirror_survey(
 }
 
 // Sets the bits of all n sectors, and clears those past n.
-#[unsafe(no_mangle)]
-pub extern "C" fn mirror_start_map(n: usize, map: &mut [u64]) -> u32
+pub fn mirror_start_map(n: usize, map: &mut [u64]) -> u32
     ensures { start_outcome n map.old ≡ (result, map.new) }
 {
     done_number(map::start(n, map))
 }
 
 // `count` is given the number of suspects among n sectors.
-#[unsafe(no_mangle)]
-pub extern "C" fn mirror_count_suspects(n: usize, map: &[u64], count: &mut u64) -> u32
+pub fn mirror_count_suspects(n: usize, map: &[u64], count: &mut u64) -> u32
     ensures { count_outcome n map.now count.old ≡ (result, count.new) }
 {
     done_number(map::count_suspects(n, map, count))

@@ -4,7 +4,6 @@ use Prim.Native.Nat.{ℕ, ◌/◌}
 use Rattle.block.specs.Value.{value}
 use Rattle.fips197.specs.Aes.{expand, cipher_number}
 use Rattle.bench.specs.Chain.{iterate, folded}
-use borrow.Author.Rules.{rules}
 use Rattle.bench.proofs.bench_encrypt.Goals as goal
 
 pub returns : goal.returns

@@ -1,7 +1,6 @@
 use mathlib.Core.Path.{ap, ◌∙◌}
 use Rattle.block.specs.Value.{value}
 use Rattle.bench.specs.Chain.{folded}
-use borrow.Author.Rules.{rules}
 use Rattle.bench.proofs.bench_mul.Goals as goal
 
 pub returns : goal.returns

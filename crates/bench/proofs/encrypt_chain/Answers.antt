@@ -1,9 +1,7 @@
-use mathlib.Core.Path.{◌≡◌, refl, sym, ◌∙◌}
+use mathlib.Core.Path.{sym, ◌∙◌}
 use native.Mathlib.Omega.{arith}
-use borrow.Author.Rules.{rules}
 use Rattle.block.specs.Value.{value}
 use Rattle.fips197.specs.Aes.{cipher_number}
-use Rattle.bench.specs.Chain.{iterate}
 use Rattle.bench.proofs.ChainLaws.{turn, end}
 use Rattle.bench.proofs.encrypt_chain.Goals as goal
 

@@ -1,10 +1,7 @@
-use mathlib.Core.Path.{◌≡◌, refl, sym, ◌∙◌}
-use native.Mathlib.Omega.{arith}
-use borrow.Author.Rules.{rules}
+use mathlib.Core.Path.{◌≡◌}
 use Rattle.block.specs.Value.{value}
 use Rattle.fips197.specs.Aes.{cipher_number}
 use Rattle.bench.specs.Chain.{iterate}
-use Rattle.bench.proofs.ChainLaws.{turn, end}
 use Rattle.bench.proofs.encrypt_chain.Given as goal
 
 abbrev pub invariant-loop-k : goal.invariant-loop-k

@@ -1,16 +1,7 @@
-use mathlib.Core.Path.{◌≡◌, refl, sym, ap, ◌∙◌}
-use mathlib.Core.List.{[], ◌∷◌, ◌++◌}
-use Prim.Native.Nat.{ℕ}
-use native.Mathlib.Omega.{arith}
-use lib.Bits.{bit_xor}
-use lib.ListN.{take, length-take}
-use borrow.Author.Rules.{rules}
-use Rattle.block.specs.Bytes.{blocks_of}
+use mathlib.Core.Path.{◌≡◌}
 use Rattle.block.specs.Value.{value}
-use Rattle.hash.specs.Brw.{brw}
 use Rattle.hash.specs.Powers.{key_of}
-use Rattle.bench.specs.Chain.{iterate, last_at, hashed}
-use Rattle.bench.proofs.ChainLaws.{turn, end}
+use Rattle.bench.specs.Chain.{iterate, hashed}
 use Rattle.bench.proofs.hash_chain.Given as goal
 
 abbrev pub invariant-loop-k : goal.invariant-loop-k

@@ -1,8 +1,7 @@
-use mathlib.Core.Path.{◌≡◌, refl, sym, ◌∙◌}
+use mathlib.Core.Path.{sym, ◌∙◌}
 use native.Mathlib.Omega.{arith}
-use borrow.Author.Rules.{rules}
 use Rattle.block.specs.Value.{value}
-use Rattle.bench.specs.Chain.{iterate, product}
+use Rattle.bench.specs.Chain.{product}
 use Rattle.bench.proofs.ChainLaws.{turn, end}
 use Rattle.bench.proofs.mul_chain.Goals as goal
 

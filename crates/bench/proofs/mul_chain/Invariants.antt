@@ -1,9 +1,6 @@
-use mathlib.Core.Path.{◌≡◌, refl, sym, ◌∙◌}
-use native.Mathlib.Omega.{arith}
-use borrow.Author.Rules.{rules}
+use mathlib.Core.Path.{◌≡◌}
 use Rattle.block.specs.Value.{value}
 use Rattle.bench.specs.Chain.{iterate, product}
-use Rattle.bench.proofs.ChainLaws.{turn, end}
 use Rattle.bench.proofs.mul_chain.Given as goal
 
 abbrev pub invariant-loop-k : goal.invariant-loop-k

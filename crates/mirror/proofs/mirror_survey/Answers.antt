@@ -1,4 +1,3 @@
-use borrow.Author.Rules.{rules}
 use Rattle.mirror.proofs.Numbers.{survey_counted, survey_refused}
 use Rattle.mirror.proofs.mirror_survey.Goals as goal
 

@@ -1,5 +1,4 @@
 use Rattle.mirror.proofs.Numbers.{renumber}
-use borrow.Author.Rules.{rules}
 use Rattle.mirror.proofs.mirror_write.Goals as goal
 
 pub returns : goal.returns
