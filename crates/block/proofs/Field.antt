@@ -1,5 +1,5 @@
 -- Laws of the field. Assumes nothing.
-use Rattle.std.proofs.Common.{◌≡◌, ℕ, zero, suc, ◌+◌, ◌-◌, ◌*◌, ◌/◌, ◌%◌, ◌^◌, ◌<◌, ◌≤◌, sym, refl, ap, ◌∙◌, ap₂, lt_of_lt_of_le, le_of_suc-le-suc, not-suc-le-zero, add-zero, mod-lt, mod-eq_of_lt, pow-suc, mul-one, add-one, arith, lit<, lit≤, pow_pos, pow_mono, pow-add, shl_lt}
+use Rattle.std.proofs.Common.{◌≡◌, ℕ, zero, suc, ◌+◌, ◌-◌, ◌*◌, ◌/◌, ◌%◌, ◌^◌, ◌<◌, ◌≤◌, sym, refl, ap, ◌∙◌, ap₂, lt_of_lt_of_le, le_of_suc-le-suc, not-suc-le-zero, mod-lt, mod-eq_of_lt, pow-suc, mul-one, add-one, arith, lit<, lit≤, pow_pos, pow_mono, pow-add, shl_lt}
 use native.Mathlib.Nat.{mod-one, div-eq_of_lt, le_of_suc-le, mul-mod_left}
 use native.Mathlib.Nat as N
 use lib.Pow.{pow-lt, shl-shr, mod-pow-add}
@@ -257,7 +257,7 @@ pub field_laws : FieldLaws
 field_laws = record {
   add_assoc = xor_assoc;
   add_comm = xor_comm;
-  add-zero = xor_zero_r;
+  add_zero = xor_zero_r;
   add_cancel = xor_cancel;
   add_closed = λ a b p q. xor_lt 128 a b p q;
   double_closed = double_lt;
@@ -269,7 +269,7 @@ field_laws = record {
   mul_assoc = λ a b c p q r. mul_assoc p q r;
   zero-mul = mul-zero_l;
   mul_zero = mul-zero_r;
-  one-mul = mul_one_l;
+  one_mul = mul_one_l;
   x_mul = mul_two_l;
   1⊕x_mul = mul_three_l;
   x_after = λ y h. x_inverse h;

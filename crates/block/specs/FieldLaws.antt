@@ -7,7 +7,7 @@ pub record FieldLaws : Type 0 where
   -- ⊕
   pub add_assoc : (a b c : ℕ) → bit_xor (bit_xor a b) c ≡ bit_xor a (bit_xor b c)
   pub add_comm : (a b : ℕ) → bit_xor a b ≡ bit_xor b a
-  pub add-zero : (a : ℕ) → bit_xor a 0 ≡ a
+  pub add_zero : (a : ℕ) → bit_xor a 0 ≡ a
   pub add_cancel : (a b : ℕ) → bit_xor a (bit_xor a b) ≡ b
   pub add_closed : (a b : ℕ) → a < 2 ^ 128 → b < 2 ^ 128 → bit_xor a b < 2 ^ 128
   -- doubling
@@ -22,7 +22,7 @@ pub record FieldLaws : Type 0 where
   -- the factors 0, 1, x and 1⊕x
   pub zero-mul : (b : ℕ) → mul 0 b ≡ 0
   pub mul_zero : (a : ℕ) → mul a 0 ≡ 0
-  pub one-mul : (b : ℕ) → mul 1 b ≡ b
+  pub one_mul : (b : ℕ) → mul 1 b ≡ b
   pub x_mul : (b : ℕ) → mul 2 b ≡ double b
   pub 1⊕x_mul : (b : ℕ) → mul 3 b ≡ bit_xor (double b) b
   -- the two inverses, on either side

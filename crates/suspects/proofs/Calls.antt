@@ -82,8 +82,8 @@ module _ (seals : Schemes) (v : Triple) (a : Args) (c : Call) (m : List ℕ) whe
   marked_refused e = settle_some _ (v, m) e
 
   -- refused or not, with any map
-  leaves-marked : Marked c a.number m (map_outcome seals v a c m).0 (map_outcome seals v a c m).1.1
-  leaves-marked = go (map_refusal v a m) refl
+  leaves_marked : Marked c a.number m (map_outcome seals v a c m).0 (map_outcome seals v a c m).1.1
+  leaves_marked = go (map_refusal v a m) refl
     where
       go : (o : Option ℕ) → map_refusal v a m ≡ o → Marked c a.number m (map_outcome seals v a c m).0 (map_outcome seals v a c m).1.1
       go none e =
@@ -95,14 +95,14 @@ module _ (seals : Schemes) (v : Triple) (a : Args) (c : Call) (m : List ℕ) whe
 
   bits_after : (i : ℕ) → bit i (map_outcome seals v a c m).1.1 ≡ cond (eqb i a.number) (turned (marks c (map_outcome seals v a c m).0) (bit i m)) (bit i m)
   bits_after i =
-      ap (bit i) leaves-marked.by_mark
-      ∙ bit-marked (marks c (map_outcome seals v a c m).0) i a.number m leaves-marked.room
+      ap (bit i) leaves_marked.by_mark
+      ∙ bit-marked (marks c (map_outcome seals v a c m).0) i a.number m leaves_marked.room
 
   length-after : length (map_outcome seals v a c m).1.1 ≡ length m
-  length-after = ap length leaves-marked.by_mark ∙ length_marked (marks c (map_outcome seals v a c m).0) a.number m
+  length-after = ap length leaves_marked.by_mark ∙ length_marked (marks c (map_outcome seals v a c m).0) a.number m
 
   words_after : Words m → Words (map_outcome seals v a c m).1.1
-  words_after h = subst Words (sym leaves-marked.by_mark) (words_marked (marks c (map_outcome seals v a c m).0) a.number m h)
+  words_after h = subst Words (sym leaves_marked.by_mark) (words_marked (marks c (map_outcome seals v a c m).0) a.number m h)
 
   -- a call that `map_refusal` refuses with a right map is refused without it
   early_refused : length m ≡ map_words a.volume.count → {k : ℕ} → map_refusal v a m ≡ some k → first_of (early v a c) ≡ some k

@@ -10,7 +10,7 @@ use Rattle.block.proofs.Lists.{plain_zeros}
 use Rattle.mode.specs.Sealing.{Triple}
 use Rattle.mode.specs.Scheme.{Place, local, tag, remote, on, Scheme, Lawful}
 use Rattle.verdict.specs.Verdict.{whole, doubtful, Means}
-use Rattle.answers.specs.Rules.{Args, Volume, shape, length_rules, map_words}
+use Rattle.answers.specs.Rules.{Args, Volume, length_rules, map_words}
 use Rattle.answers.proofs.Rules.{first_none}
 use Rattle.answers.proofs.Passing.{Common, sector_pass}
 use Rattle.history.specs.Volume.{Call, blank, first, second, third, mend, read, store, outcome, mirror}

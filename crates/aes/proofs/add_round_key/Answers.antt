@@ -1,5 +1,4 @@
 use Rattle.aes.proofs.Rounds.{key_state}
-use borrow.Author.Rules.{rules}
 use Rattle.aes.proofs.add_round_key.Goals as goal
 
 pub returns : goal.returns

@@ -1,11 +1,7 @@
-use mathlib.Core.Path.{◌≡◌, refl, ap, ◌∙◌}
-use mathlib.Core.List.{List}
-use Prim.Native.Nat.{ℕ, ◌-◌, ◌≤◌, ◌<◌}
-use native.Mathlib.Omega.{arith}
-use borrow.Author.Rules.{rules}
-use Rattle.fips197.specs.Aes.{mix_columns, shift_rows, sub_bytes, add_round_key, rounds, cipher, rounds_of}
+use mathlib.Core.Path.{◌≡◌}
+use Prim.Native.Nat.{◌-◌, ◌≤◌, ◌<◌}
+use Rattle.fips197.specs.Aes.{rounds}
 use Rattle.aes.specs.Columns.{state_of}
-use Rattle.aes.proofs.Rounds.{last_state, round_state, rounds_next}
 use Rattle.aes.proofs.cipher.Given as goal
 
 abbrev pub invariant-loop-n : goal.invariant-loop-n

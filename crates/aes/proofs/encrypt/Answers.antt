@@ -1,7 +1,6 @@
 use mathlib.Core.Path.{ap, ◌∙◌}
 use Rattle.block.specs.Bytes.{from_bytes}
 use Rattle.fips197.specs.Aes.{cipher, rounds_of, cipher_number}
-use borrow.Author.Rules.{rules}
 use Rattle.aes.proofs.encrypt.Goals as goal
 
 pub returns : goal.returns

@@ -4,7 +4,6 @@ use Prim.Native.Nat.{ℕ, ◌+◌, ◌-◌, ◌*◌, ◌/◌}
 use native.Mathlib.Omega.{arith}
 use lib.ListN.{length}
 use Rattle.fips197.specs.Aes.{rounds_of, extend_by, expand}
-use borrow.Author.Rules.{rules}
 use Rattle.aes.proofs.expand.Goals as goal
 
 pub returns : goal.returns

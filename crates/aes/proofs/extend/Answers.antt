@@ -1,9 +1,7 @@
-use mathlib.Core.Path.{◌≡◌, refl}
-use Prim.Native.Nat.{◌-◌, ◌≤◌}
+use mathlib.Core.Path.{refl}
 use native.Mathlib.Omega.{arith}
 use borrow.Author.Rules.{rules}
-use lib.ListN.{length, take, length-set}
-use Rattle.fips197.specs.Aes.{extend_by}
+use lib.ListN.{length-set}
 use Rattle.fips197.proofs.Schedule.{extend_start, extend_turn, extend_end}
 use Rattle.aes.proofs.extend.Goals as goal
 

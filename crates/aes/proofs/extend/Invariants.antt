@@ -1,10 +1,7 @@
-use mathlib.Core.Path.{◌≡◌, refl}
+use mathlib.Core.Path.{◌≡◌}
 use Prim.Native.Nat.{◌-◌, ◌≤◌}
-use native.Mathlib.Omega.{arith}
-use borrow.Author.Rules.{rules}
-use lib.ListN.{length, take, length-set}
+use lib.ListN.{length, take}
 use Rattle.fips197.specs.Aes.{extend_by}
-use Rattle.fips197.proofs.Schedule.{extend_start, extend_turn, extend_end}
 use Rattle.aes.proofs.extend.Given as goal
 
 abbrev pub invariant-loop-i : goal.invariant-loop-i

@@ -1,7 +1,6 @@
 use native.Mathlib.Omega.{arith}
 use Rattle.block.specs.Value.{value}
 use Rattle.aes.proofs.Words.{from_columns}
-use borrow.Author.Rules.{rules}
 use Rattle.aes.proofs.from_columns.Goals as goal
 
 pub returns : goal.returns

@@ -1,7 +1,6 @@
 use mathlib.Core.Path.{sym, ap, ◌∙◌}
 use Rattle.block.specs.Bytes.{from_bytes}
 use Rattle.aes.proofs.Words.{part_four}
-use borrow.Author.Rules.{rules}
 use Rattle.aes.proofs.key_word.Goals as goal
 
 pub returns : goal.returns

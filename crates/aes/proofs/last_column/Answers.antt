@@ -1,7 +1,6 @@
 use mathlib.Core.Path.{ap, ◌∙◌}
 use Rattle.block.specs.Bytes.{to_bytes}
 use Rattle.aes.proofs.Rounds.{last_column_lem}
-use borrow.Author.Rules.{rules}
 use Rattle.aes.proofs.last_column.Goals as goal
 
 pub returns : goal.returns

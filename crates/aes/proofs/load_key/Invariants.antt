@@ -1,11 +1,8 @@
-use mathlib.Core.Path.{◌≡◌, refl, ap, ◌∙◌}
-use mathlib.Core.List.{List, ◌++◌}
-use Prim.Native.Nat.{ℕ, ◌-◌, ◌≤◌}
-use native.Mathlib.Omega.{arith}
-use lib.ListN.{length, take, drop, set, length-set}
-use Rattle.block.proofs.Lists.{fill_turn}
+use mathlib.Core.Path.{◌≡◌}
+use mathlib.Core.List.{◌++◌}
+use Prim.Native.Nat.{◌-◌, ◌≤◌}
+use lib.ListN.{length, take, drop}
 use Rattle.fips197.specs.Aes.{key_words}
-use Rattle.fips197.proofs.Schedule.{length_key, key_at, key_loaded}
 use Rattle.aes.proofs.load_key.Given as goal
 
 abbrev pub invariant-loop-i : goal.invariant-loop-i

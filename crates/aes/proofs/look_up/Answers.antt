@@ -5,7 +5,6 @@ use Rattle.block.proofs.Numbers.{to_bytes_at}
 use Rattle.fips197.specs.Aes.{s_box}
 use Rattle.aes.specs.Columns.{mix_rows}
 use Rattle.aes.proofs.Rounds.{entry_rows}
-use borrow.Author.Rules.{rules}
 use Rattle.aes.proofs.look_up.Goals as goal
 
 pub returns : goal.returns

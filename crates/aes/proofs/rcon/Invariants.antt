@@ -1,9 +1,6 @@
-use mathlib.Core.Path.{◌≡◌, refl, ap, ◌∙◌}
-use mathlib.Core.List.{[], ◌∷◌}
-use Prim.Native.Nat.{ℕ, suc, ◌+◌, ◌-◌, ◌≤◌, ◌<◌}
-use native.Mathlib.Omega.{arith}
-use Rattle.block.specs.Bytes.{from_bytes}
-use Rattle.fips197.specs.Aes.{xtime, xpow, rcon}
+use mathlib.Core.Path.{◌≡◌}
+use Prim.Native.Nat.{◌-◌, ◌≤◌, ◌<◌}
+use Rattle.fips197.specs.Aes.{xpow}
 use Rattle.aes.proofs.rcon.Given as goal
 
 abbrev pub invariant-loop-n : goal.invariant-loop-n

@@ -1,7 +1,6 @@
 use Prim.Native.Nat.{◌-◌}
 use native.Mathlib.Omega.{arith}
 use Rattle.aes.proofs.Words.{rotated_bytes}
-use borrow.Author.Rules.{rules}
 use Rattle.aes.proofs.rotate_right.Goals as goal
 
 pub returns : goal.returns

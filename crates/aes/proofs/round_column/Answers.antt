@@ -2,7 +2,6 @@ use mathlib.Core.Path.{ap, ◌∙◌}
 use Rattle.fips197.specs.Aes.{rotate}
 use Rattle.aes.specs.Columns.{round_column}
 use Rattle.aes.proofs.Rounds.{round_column_lem}
-use borrow.Author.Rules.{rules}
 use Rattle.aes.proofs.round_column.Goals as goal
 
 pub returns : goal.returns

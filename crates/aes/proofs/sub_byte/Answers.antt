@@ -3,7 +3,6 @@ use mathlib.Core.List.{List}
 use Prim.Native.Nat.{ℕ}
 use lib.ListN.{get_or}
 use Rattle.block.specs.Bytes.{to_bytes}
-use borrow.Author.Rules.{rules}
 use Rattle.aes.proofs.sub_byte.Goals as goal
 
 pub returns : goal.returns

@@ -1,11 +1,8 @@
-use mathlib.Core.Path.{◌≡◌, refl, ap, ◌∙◌}
-use mathlib.Core.List.{List, ◌++◌}
-use Prim.Native.Nat.{ℕ, ◌-◌, ◌≤◌}
-use native.Mathlib.Omega.{arith}
-use lib.ListN.{take, drop, set}
-use Rattle.block.proofs.Lists.{fill_turn, fill_end}
+use mathlib.Core.Path.{◌≡◌}
+use mathlib.Core.List.{◌++◌}
+use Prim.Native.Nat.{◌-◌, ◌≤◌}
+use lib.ListN.{take, drop}
 use Rattle.aes.specs.Columns.{round_table}
-use Rattle.aes.proofs.Rounds.{entry_of, length_table}
 use Rattle.aes.proofs.table.Given as goal
 
 abbrev pub invariant-loop-i : goal.invariant-loop-i

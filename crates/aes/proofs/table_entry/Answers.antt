@@ -3,7 +3,6 @@ use mathlib.Core.List.{[], ◌∷◌}
 use lib.Bits.{bit_xor}
 use Rattle.block.specs.Bytes.{from_bytes}
 use Rattle.fips197.proofs.Bytes.{double_is, triple_is}
-use borrow.Author.Rules.{rules}
 use Rattle.aes.proofs.table_entry.Goals as goal
 
 pub returns : goal.returns

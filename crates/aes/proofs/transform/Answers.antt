@@ -3,7 +3,7 @@ use mathlib.Core.Logic.{⊎_elim}
 use lib.Bits.{bit_xor}
 use borrow.Author.Tests.{eq-eqb, ne_eqb, lt-ltb, le-ltb}
 use Rattle.fips197.specs.Aes.{sub_word, transform}
-use borrow.Author.Rules.{rules}
+use Rattle.std.proofs.Common.{◌%◌}
 use Rattle.aes.proofs.transform.Goals as goal
 
 pub returns-then-r-eq0 : goal.returns-then-r-eq0
@@ -23,4 +23,4 @@ pub returns : goal.returns
 unfolding transform
 returns c =
     let first = ne_eqb _ _ c.if-r-eq0.false in
-    ⊎_elim (λ w. simp (first, lt-ltb _ _ w.0.taken, w.1.left)) (λ w. simp (first, le-ltb _ _ w.left)) c.else-nk-gt6.branch
+    ⊎_elim (λ w. simp (first, lt-ltb 6 c.args.nk w.0, ne_eqb (c.args.i % c.args.nk) 4 w.1)) (λ w. simp (first, le-ltb 6 c.args.nk w)) c.else-nk-gt6.either

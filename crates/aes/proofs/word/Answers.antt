@@ -1,6 +1,5 @@
 use native.Mathlib.Omega.{arith}
 use Rattle.block.specs.Bytes.{number, from_bytes}
-use borrow.Author.Rules.{rules}
 use Rattle.aes.proofs.word.Goals as goal
 
 pub returns : goal.returns

@@ -1,6 +1,5 @@
 use mathlib.Core.Path.{refl}
 use Rattle.fips197.specs.Aes.{xtime}
-use borrow.Author.Rules.{rules}
 use Rattle.aes.proofs.xtime.Goals as goal
 
 pub returns : goal.returns

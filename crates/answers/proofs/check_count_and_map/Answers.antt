@@ -1,6 +1,5 @@
 use Rattle.answers.specs.Rules.{map_rules, count_rules}
 use Rattle.answers.proofs.Rules.{first_both}
-use borrow.Author.Rules.{rules}
 use Rattle.answers.proofs.check_count_and_map.Goals as goal
 
 pub returns : goal.returns

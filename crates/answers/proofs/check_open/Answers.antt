@@ -2,7 +2,6 @@ use mathlib.Core.List.{◌++◌}
 use Rattle.mode.specs.Sealing.{key_from}
 use Rattle.answers.specs.Rules.{key_rules, size_rules, length_rules, side_rules}
 use Rattle.answers.proofs.Rules.{first_both}
-use borrow.Author.Rules.{rules}
 use Rattle.answers.proofs.check_open.Goals as goal
 
 pub returns : goal.returns

@@ -1,7 +1,6 @@
 use mathlib.Core.List.{◌++◌}
 use Rattle.answers.specs.Rules.{size_rules, length_rules}
 use Rattle.answers.proofs.Rules.{first_both}
-use borrow.Author.Rules.{rules}
 use Rattle.answers.proofs.check_pair.Goals as goal
 
 pub returns : goal.returns

@@ -1,7 +1,6 @@
 use Rattle.mode.specs.Sealing.{key_from}
 use Rattle.answers.specs.Rules.{shape, sector_rules, length_rules}
 use Rattle.answers.proofs.Rules.{first_both}
-use borrow.Author.Rules.{rules}
 use Rattle.answers.proofs.check_sector_and_length.Goals as goal
 
 pub returns : goal.returns

@@ -1,5 +1,4 @@
 use mathlib.Core.Path.{sym, ◌∙◌}
-use borrow.Author.Rules.{rules}
 use Rattle.answers.proofs.check_shape.Goals as goal
 
 pub returns-then-fits_shape : goal.returns-then-fits_shape

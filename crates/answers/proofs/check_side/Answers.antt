@@ -1,5 +1,4 @@
 use borrow.Author.Tests.{ne_eqb}
-use borrow.Author.Rules.{rules}
 use Rattle.answers.proofs.check_side.Goals as goal
 
 pub returns : goal.returns

@@ -2,7 +2,6 @@ use mathlib.Core.List.{◌++◌}
 use Rattle.mode.specs.Sealing.{key_from}
 use Rattle.answers.specs.Rules.{shape, map_rules, list_rules, volume_rules}
 use Rattle.answers.proofs.Rules.{first_both}
-use borrow.Author.Rules.{rules}
 use Rattle.answers.proofs.check_survey_and_map.Goals as goal
 
 pub returns : goal.returns

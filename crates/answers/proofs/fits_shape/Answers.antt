@@ -4,7 +4,6 @@ use native.Mathlib.Omega.{arith}
 use borrow.Author.Tests.{eq-eqb, ne_eqb, le-leb, lt-leb}
 use Rattle.answers.specs.Rules.{shape}
 use Rattle.answers.proofs.Shapes.{product_whole, product_quotient, quotient_product}
-use borrow.Author.Rules.{rules}
 use Rattle.answers.proofs.fits_shape.Goals as goal
 
 pub returns-then-n-lt1 : goal.returns-then-n-lt1

@@ -1,6 +1,5 @@
 use mathlib.Core.Path.{sym}
 use Rattle.bits.proofs.Digits.{digit_shift}
-use borrow.Author.Rules.{rules}
 use Rattle.bits.proofs.digit_of.Goals as goal
 
 pub returns : goal.returns

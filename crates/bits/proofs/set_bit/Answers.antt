@@ -1,6 +1,5 @@
 use mathlib.Core.Bool.{true}
 use Rattle.bits.proofs.Bits.{word_set}
-use borrow.Author.Rules.{rules}
 use Rattle.bits.proofs.set_bit.Goals as goal
 
 pub returns : goal.returns

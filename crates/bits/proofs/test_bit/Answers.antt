@@ -1,5 +1,4 @@
 use Rattle.bits.proofs.Bits.{bit-read}
-use borrow.Author.Rules.{rules}
 use Rattle.bits.proofs.test_bit.Goals as goal
 
 pub returns : goal.returns

@@ -1,6 +1,5 @@
 use native.Mathlib.Omega.{arith}
 use Rattle.bits.proofs.Digits.{code_set}
-use borrow.Author.Rules.{rules}
 use Rattle.bits.proofs.with_one.Goals as goal
 
 pub returns : goal.returns

@@ -1,4 +1,4 @@
-use Rattle.std.proofs.Common.{◌≡◌, ℕ, ◌-◌, ◌≤◌, List, ◌++◌, length, get_or, take, drop, set, refl, ap, ◌∙◌, arith, length-set}
+use Rattle.std.proofs.Common.{ℕ, List, get_or, set, refl, ap, ◌∙◌, arith, length-set}
 use Rattle.block.proofs.Lists.{fill_turn, fill_end}
 use Rattle.block.proofs.copy.Goals as goal
 

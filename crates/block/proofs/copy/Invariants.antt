@@ -1,5 +1,4 @@
-use Rattle.std.proofs.Common.{◌≡◌, ℕ, ◌-◌, ◌≤◌, List, ◌++◌, length, get_or, take, drop, set, refl, ap, ◌∙◌, arith, length-set}
-use Rattle.block.proofs.Lists.{fill_turn, fill_end}
+use Rattle.std.proofs.Common.{◌≡◌, ◌-◌, ◌≤◌, ◌++◌, length, take, drop}
 use Rattle.block.proofs.copy.Given as goal
 
 abbrev pub invariant-loop-i : goal.invariant-loop-i

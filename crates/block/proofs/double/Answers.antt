@@ -1,4 +1,4 @@
-use Rattle.std.proofs.Common.{arith, rules}
+use Rattle.std.proofs.Common.{arith}
 use Rattle.block.specs.Value.{value}
 use Rattle.block.proofs.Words.{double_words}
 use Rattle.block.proofs.double.Goals as goal

@@ -1,4 +1,4 @@
-use Rattle.std.proofs.Common.{ℕ, ◌+◌, ◌*◌, ◌^◌, sym, ◌∙◌, ap₂, arith, rules}
+use Rattle.std.proofs.Common.{ℕ, ◌+◌, ◌*◌, ◌^◌, sym, ◌∙◌, ap₂, arith}
 use Rattle.block.proofs.Numbers.{bytes_two}
 use Rattle.block.specs.Value.{value}
 use Rattle.block.proofs.load.Goals as goal

@@ -1,5 +1,4 @@
 use Rattle.block.proofs.WordBytes.{word_of}
-use Rattle.std.proofs.Common.{rules}
 use Rattle.block.proofs.load_word.Goals as goal
 
 pub returns : goal.returns

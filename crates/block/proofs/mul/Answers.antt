@@ -1,9 +1,9 @@
-use Rattle.std.proofs.Common.{ℕ, ◌-◌, ◌^◌, ◌<◌, ◌≤◌, ◌∙◌, ap₂, arith, rules}
+use Rattle.std.proofs.Common.{ℕ, ◌^◌, ◌<◌, ◌∙◌, ap₂, arith}
 use lib.Arith.{digits_lt}
 use lib.Bits.{bit_xor}
 use Rattle.block.specs.Field.{mul}
 use Rattle.block.specs.Value.{value}
-use Rattle.block.proofs.Product.{Chain, chain_start, chain_next, chain_all, two_words}
+use Rattle.block.proofs.Product.{chain_start, chain_next, chain_all, two_words}
 use Rattle.block.proofs.mul.Goals as goal
 
 pub loop-i-init : goal.loop-i-init

@@ -1,9 +1,5 @@
-use Rattle.std.proofs.Common.{ℕ, ◌-◌, ◌^◌, ◌<◌, ◌≤◌, ◌∙◌, ap₂, arith, rules}
-use lib.Arith.{digits_lt}
-use lib.Bits.{bit_xor}
-use Rattle.block.specs.Field.{mul}
-use Rattle.block.specs.Value.{value}
-use Rattle.block.proofs.Product.{Chain, chain_start, chain_next, chain_all, two_words}
+use Rattle.std.proofs.Common.{◌-◌, ◌≤◌}
+use Rattle.block.proofs.Product.{Chain}
 use Rattle.block.proofs.mul.Given as goal
 
 abbrev pub invariant-loop-i : goal.invariant-loop-i

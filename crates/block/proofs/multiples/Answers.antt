@@ -1,4 +1,4 @@
-use Rattle.std.proofs.Common.{◌≡◌, ℕ, ◌-◌, ◌*◌, ◌^◌, ◌≤◌, length, refl, subst, arith, length-set, rules}
+use Rattle.std.proofs.Common.{◌≡◌, ℕ, ◌*◌, ◌^◌, refl, subst, arith, length-set}
 use lib.Arith.{digits_lt}
 use Rattle.block.specs.Tables.{multiple_at, Multiples}
 use Rattle.block.specs.Value.{value}

@@ -1,8 +1,6 @@
-use Rattle.std.proofs.Common.{◌≡◌, ℕ, ◌-◌, ◌*◌, ◌^◌, ◌≤◌, length, refl, subst, arith, length-set, rules}
-use lib.Arith.{digits_lt}
-use Rattle.block.specs.Tables.{multiple_at, Multiples}
+use Rattle.std.proofs.Common.{◌≡◌, ◌-◌, ◌*◌, ◌≤◌, length}
+use Rattle.block.specs.Tables.{Multiples}
 use Rattle.block.specs.Value.{value}
-use Rattle.block.proofs.Tables.{two_multiples, two_more}
 use Rattle.block.proofs.multiples.Given as goal
 
 abbrev pub invariant-loop-i : goal.invariant-loop-i

@@ -1,5 +1,4 @@
-use Rattle.std.proofs.Common.{◌≡◌, ◌-◌, ◌≤◌, length, drop, sym, refl, ◌∙◌, arith}
-use Rattle.block.specs.Bytes as B
+use Rattle.std.proofs.Common.{sym, refl, ◌∙◌, arith}
 use Rattle.block.proofs.Lists.{same_turn, same_differ, same_end, same_lengths}
 use Rattle.block.proofs.same.Goals as goal
 

@@ -1,6 +1,5 @@
-use Rattle.std.proofs.Common.{◌≡◌, ◌-◌, ◌≤◌, length, drop, sym, refl, ◌∙◌, arith}
+use Rattle.std.proofs.Common.{◌≡◌, ◌-◌, ◌≤◌, length, drop}
 use Rattle.block.specs.Bytes as B
-use Rattle.block.proofs.Lists.{same_turn, same_differ, same_end, same_lengths}
 use Rattle.block.proofs.same.Given as goal
 
 abbrev pub invariant-loop-i : goal.invariant-loop-i

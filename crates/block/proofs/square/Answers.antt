@@ -1,4 +1,4 @@
-use Rattle.std.proofs.Common.{ap, ◌∙◌, ap₂, arith, rules}
+use Rattle.std.proofs.Common.{ap, ◌∙◌, ap₂, arith}
 use lib.Bits.{bit_xor}
 use Rattle.block.specs.Field.{mul}
 use Rattle.block.specs.Value.{value}

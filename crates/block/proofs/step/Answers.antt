@@ -1,4 +1,4 @@
-use Rattle.std.proofs.Common.{◌/◌, ◌^◌, arith, rules}
+use Rattle.std.proofs.Common.{◌/◌, ◌^◌, arith}
 use Rattle.block.specs.Tables.{Reductions}
 use Rattle.block.specs.Value.{value}
 use Rattle.block.proofs.Product.{step_words}

@@ -1,4 +1,4 @@
-use Rattle.std.proofs.Common.{◌≡◌, ℕ, ◌+◌, List, ◌++◌, length, take, drop, sym, ap, ◌∙◌, ap₂, add_assoc, arith, rules}
+use Rattle.std.proofs.Common.{◌≡◌, ℕ, ◌+◌, List, ◌++◌, length, take, drop, sym, ap, ◌∙◌, ap₂, add_assoc, arith}
 use Rattle.block.specs.Bytes.{to_bytes}
 use Rattle.block.proofs.Numbers.{to_bytes_two, store_two, length-to_bytes}
 use Rattle.block.specs.Value.{value}

@@ -1,4 +1,4 @@
-use Rattle.std.proofs.Common.{arith, length-set, rules}
+use Rattle.std.proofs.Common.{length-set}
 use Rattle.block.proofs.WordBytes.{stored_is}
 use Rattle.block.proofs.store_word.Goals as goal
 

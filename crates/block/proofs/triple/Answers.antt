@@ -1,4 +1,4 @@
-use Rattle.std.proofs.Common.{ℕ, sym, ap, ◌∙◌, rules}
+use Rattle.std.proofs.Common.{ℕ, sym, ap, ◌∙◌}
 use lib.Bits.{bit_xor}
 use Rattle.block.specs.Value.{value}
 use Rattle.block.proofs.Field.{mul_three_l}

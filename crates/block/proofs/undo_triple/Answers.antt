@@ -1,4 +1,4 @@
-use Rattle.std.proofs.Common.{arith, shr_lt, rules}
+use Rattle.std.proofs.Common.{arith, shr_lt}
 use lib.Bits.{xor_lt}
 use Rattle.block.specs.Value.{value}
 use Rattle.block.proofs.Undo.{undone_triple}

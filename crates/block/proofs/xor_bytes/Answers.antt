@@ -1,4 +1,4 @@
-use Rattle.std.proofs.Common.{◌≡◌, ℕ, ◌-◌, ◌≤◌, List, ◌++◌, length, get_or, take, drop, set, sym, refl, ap, ◌∙◌, arith, length-set}
+use Rattle.std.proofs.Common.{◌≡◌, ℕ, List, length, get_or, set, sym, refl, ap, ◌∙◌, arith, length-set}
 use lib.Bits.{bit_xor}
 use Rattle.block.specs.Bytes.{xor_bytes}
 use Rattle.block.proofs.Lists.{fill_turn, fill_end, length_xor, get_or_xor}

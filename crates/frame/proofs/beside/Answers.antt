@@ -1,6 +1,5 @@
 use borrow.Author.Tests.{eq-eqb, ne_eqb}
 use Rattle.frame.specs.Frame as F
-use borrow.Author.Rules.{rules}
 use Rattle.frame.proofs.beside.Goals as goal
 
 pub returns-then-frame-eq1 : goal.returns-then-frame-eq1

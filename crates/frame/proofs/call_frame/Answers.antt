@@ -1,7 +1,6 @@
 use mathlib.Core.Path.{◌∙◌}
 use native.Mathlib.Omega.{arith}
 use Rattle.frame.proofs.Frames.{beside_one, beside_other, called-judged, called-combined}
-use borrow.Author.Rules.{rules}
 use Rattle.frame.proofs.call_frame.Goals as goal
 
 pub judge_frame-requires : goal.judge_frame-requires

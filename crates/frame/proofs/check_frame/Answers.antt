@@ -6,7 +6,6 @@ use Rattle.answers.specs.Rules.{first_of}
 use Rattle.answers.proofs.Rules.{check_passed, check_refused}
 use Rattle.frame.specs.Frame.{together, kind_rules, halves_rules}
 use Rattle.frame.proofs.Refusals.{beside-fits, together_is}
-use borrow.Author.Rules.{rules}
 use Rattle.frame.proofs.check_frame.Goals as goal
 
 pub overflow_sub-frame : goal.overflow_sub-frame

@@ -1,7 +1,6 @@
 use native.Mathlib.Omega.{arith}
 use lib.ListN.{length}
 use borrow.Author.Tests.{eq-eqb, ne_eqb, le-leb, lt-leb}
-use borrow.Author.Rules.{rules}
 use Rattle.frame.proofs.check_kind.Goals as goal
 
 pub returns-then-frame-lt57 : goal.returns-then-frame-lt57

@@ -1,5 +1,4 @@
 use borrow.Author.Tests.{eq-eqb, ne_eqb}
-use borrow.Author.Rules.{rules}
 use Rattle.frame.proofs.check_sectors.Goals as goal
 
 pub returns-then-n-eq0 : goal.returns-then-n-eq0

@@ -1,7 +1,6 @@
 use mathlib.Core.Path.{ap}
 use Rattle.answers.specs.Answers.{done_number}
 use Rattle.frame.proofs.Frames.{combined_is}
-use borrow.Author.Rules.{rules}
 use Rattle.frame.proofs.combine_frame.Goals as goal
 
 pub returns-in-Done : goal.returns-in-Done

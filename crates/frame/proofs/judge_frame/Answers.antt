@@ -1,5 +1,4 @@
 use Rattle.frame.proofs.Frames.{judged_is}
-use borrow.Author.Rules.{rules}
 use Rattle.frame.proofs.judge_frame.Goals as goal
 
 pub returns : goal.returns

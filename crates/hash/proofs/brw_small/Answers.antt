@@ -2,7 +2,6 @@ use mathlib.Core.Path.{sym, ap₂, ◌∙◌}
 use Prim.Native.Nat.{ℕ}
 use native.Mathlib.Omega.{arith}
 use lib.Bits.{bit_xor}
-use borrow.Author.Rules.{rules}
 use Rattle.block.specs.Field.{mul}
 use Rattle.block.specs.Value.{value}
 use Rattle.hash.specs.Powers.{key_of}

@@ -1,5 +1,5 @@
 use mathlib.Core.Path.{◌≡◌}
-use Prim.Native.Nat.{◌+◌, ◌*◌, ◌-◌, ◌^◌, ◌≤◌, ◌<◌}
+use Prim.Native.Nat.{◌+◌, ◌*◌, ◌^◌}
 use native.Mathlib.Nat.{pow-suc}
 use native.Mathlib.Numerals.{add-one}
 use native.Mathlib.Omega.{arith}
@@ -19,4 +19,4 @@ returns c =
     let l = c.loop-t in
     let k = c.args.k in
     let same : log k ≡ l.i = log_is l.i k (omega arith) (omega (arith, pow-suc 2 l.i)) in
-    ((rw same l.invariant.0, rw same c.power_at.ensures), search rules)
+    record { exponent_value = (rw same l.invariant.0, rw same c.power_at.ensures); exponent_le_k = search rules }

@@ -1,11 +1,5 @@
 use mathlib.Core.Path.{◌≡◌}
-use Prim.Native.Nat.{◌+◌, ◌*◌, ◌-◌, ◌^◌, ◌≤◌, ◌<◌}
-use native.Mathlib.Nat.{pow-suc}
-use native.Mathlib.Numerals.{add-one}
-use native.Mathlib.Omega.{arith}
-use borrow.Author.Rules.{rules}
-use Rattle.hash.specs.Brw.{log}
-use Rattle.hash.proofs.BrwLaws.{exponent_le, log_is}
+use Prim.Native.Nat.{◌-◌, ◌^◌, ◌≤◌, ◌<◌}
 use Rattle.hash.proofs.largest_power.Given as goal
 
 abbrev pub invariant-loop-t : goal.invariant-loop-t

@@ -1,4 +1,3 @@
-use borrow.Author.Rules.{rules}
 use Rattle.hash.proofs.mul_add.Goals as goal
 
 pub returns : goal.returns

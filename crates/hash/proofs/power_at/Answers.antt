@@ -1,4 +1,3 @@
-use borrow.Author.Rules.{rules}
 use Rattle.block.specs.Value.{value}
 use Rattle.hash.specs.Powers.{Powers, element_at}
 use Rattle.hash.proofs.power_at.Goals as goal

@@ -1,8 +1,7 @@
-use Prim.Native.Nat.{◌-◌, ◌≤◌}
 use native.Mathlib.Omega.{arith}
 use borrow.Author.Rules.{rules}
 use Rattle.block.specs.Value.{value}
-use Rattle.hash.proofs.PowersLaws.{Filled, filled_start, filled_next, filled_all}
+use Rattle.hash.proofs.PowersLaws.{filled_start, filled_next, filled_all}
 use Rattle.hash.proofs.powers.Goals as goal
 
 pub loop-i-init : goal.loop-i-init

@@ -1,8 +1,6 @@
 use Prim.Native.Nat.{◌-◌, ◌≤◌}
-use native.Mathlib.Omega.{arith}
-use borrow.Author.Rules.{rules}
 use Rattle.block.specs.Value.{value}
-use Rattle.hash.proofs.PowersLaws.{Filled, filled_start, filled_next, filled_all}
+use Rattle.hash.proofs.PowersLaws.{Filled}
 use Rattle.hash.proofs.powers.Given as goal
 
 abbrev pub invariant-loop-i : goal.invariant-loop-i

@@ -1,5 +1,4 @@
 use Rattle.images.proofs.Parts.{lent_compared}
-use borrow.Author.Rules.{rules}
 use Rattle.images.proofs.fits_local.Goals as goal
 
 pub returns : goal.returns

@@ -1,5 +1,4 @@
 use Rattle.images.proofs.Parts.{stored_compared}
-use borrow.Author.Rules.{rules}
 use Rattle.images.proofs.fits_tag.Goals as goal
 
 pub returns : goal.returns

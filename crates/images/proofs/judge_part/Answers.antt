@@ -1,7 +1,6 @@
 use native.Mathlib.Omega.{arith}
 use lib.ListN.{length-take, length-drop}
 use Rattle.images.proofs.Parts.{lent_parts, lent_judged}
-use borrow.Author.Rules.{rules}
 use Rattle.images.proofs.judge_part.Goals as goal
 
 pub judge_in-requires : goal.judge_in-requires

@@ -1,5 +1,4 @@
 use Rattle.images.proofs.Parts.{lent_written}
-use borrow.Author.Rules.{rules}
 use Rattle.images.proofs.write_side.Goals as goal
 
 pub returns : goal.returns

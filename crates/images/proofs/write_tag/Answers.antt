@@ -1,5 +1,4 @@
 use Rattle.images.proofs.Parts.{stored-written}
-use borrow.Author.Rules.{rules}
 use Rattle.images.proofs.write_tag.Goals as goal
 
 pub returns : goal.returns

@@ -1,7 +1,6 @@
 use native.Mathlib.Omega.{arith}
 use lib.ListN.{length-take}
 use Rattle.laptop.proofs.Steps.{judged}
-use borrow.Author.Rules.{rules}
 use Rattle.laptop.proofs.judge_sector.Goals as goal
 
 pub slice_bounds-read-end : goal.slice_bounds-read-end

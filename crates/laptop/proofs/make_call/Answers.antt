@@ -1,6 +1,5 @@
 use Rattle.laptop.specs.declared.Step.TheVariants.{Mend, First, Second, Third}
 use Rattle.laptop.proofs.Steps.{made}
-use borrow.Author.Rules.{rules}
 use Rattle.laptop.proofs.make_call.Goals as goal
 
 pub returns-in-Mend : goal.returns-in-Mend

@@ -1,5 +1,4 @@
 use Rattle.laptop.proofs.Steps.{after_three}
-use borrow.Author.Rules.{rules}
 use Rattle.laptop.proofs.run_stages.Goals as goal
 
 pub returns : goal.returns

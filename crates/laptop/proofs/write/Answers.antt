@@ -1,5 +1,4 @@
 use Rattle.laptop.proofs.Steps.{wrote_whole, wrote_doubtful, wrote_refused}
-use borrow.Author.Rules.{rules}
 use Rattle.laptop.proofs.write.Goals as goal
 
 pub returns-in-Whole : goal.returns-in-Whole

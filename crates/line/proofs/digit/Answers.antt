@@ -1,4 +1,3 @@
-use borrow.Author.Rules.{rules}
 use borrow.Author.Tests.{le-leb, lt-leb}
 use Rattle.line.specs.Line as L
 use Rattle.line.proofs.digit.Goals as goal

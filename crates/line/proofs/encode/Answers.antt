@@ -1,8 +1,5 @@
-use Prim.Native.Nat.{◌-◌}
 use native.Mathlib.Omega.{arith}
-use lib.ListN.{length, length-set}
-use Rattle.line.proofs.Digits.{Encoding, encoding_start, encoding_turn, encoding_end}
-use borrow.Author.Rules.{rules}
+use Rattle.line.proofs.Digits.{encoding_start, encoding_turn, encoding_end}
 use Rattle.line.proofs.encode.Goals as goal
 
 pub loop-i-init : goal.loop-i-init

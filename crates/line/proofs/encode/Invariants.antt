@@ -1,8 +1,6 @@
 use Prim.Native.Nat.{◌-◌}
-use native.Mathlib.Omega.{arith}
-use lib.ListN.{length, length-set}
-use Rattle.line.proofs.Digits.{Encoding, encoding_start, encoding_turn, encoding_end}
-use borrow.Author.Rules.{rules}
+use lib.ListN.{length}
+use Rattle.line.proofs.Digits.{Encoding}
 use Rattle.line.proofs.encode.Given as goal
 
 abbrev pub invariant-loop-i : goal.invariant-loop-i

@@ -1,7 +1,6 @@
 use native.Mathlib.Omega.{arith}
 use lib.ListN.{length-take}
 use Rattle.line.proofs.Showing.{reprint, shown-answer}
-use borrow.Author.Rules.{rules}
 use Rattle.line.proofs.print_answer.Goals as goal
 
 pub slice_bounds-show-end-2 : goal.slice_bounds-show-end-2

@@ -9,7 +9,6 @@ use Rattle.frame.specs.Frame.{frame_answer}
 use Rattle.line.specs.Line.{shown}
 use Rattle.line.proofs.Showing.{reprint}
 use Rattle.line.proofs.Refusals.{digits_pass, digits_refused}
-use borrow.Author.Rules.{rules}
 use Rattle.line.proofs.print_decoded.Goals as goal
 
 pub returns-then-decode : goal.returns-then-decode
@@ -18,7 +17,7 @@ returns-then-decode c =
     let h = c.requires in
     let d = c.decode in
     let yes = c.if-decode.true in
-    reprint a.out.now c.print_frame.new.1.0 c.print_frame.result _
+    reprint a.out.now c.print_frame.new.out c.print_frame.result _
     (digits_pass a.line.now h.0 (by_digits a.line.now a.frame.now h.1 ∙ sym d.ensures.0 ∙ yes)
     ∙ ap (λ (f : List ℕ). shown (frame_answer f)) (sym (d.ensures.1 ∙ ap (λ b. cond b (decode a.line.now) a.frame.now) yes)))
     (omega arith) c.print_frame.ensures

@@ -8,7 +8,6 @@ use Rattle.line.specs.Line.{shown}
 use Rattle.line.proofs.Showing.{reprint}
 use Rattle.frame.proofs.Refusals.{accepted, half_is}
 use Rattle.line.proofs.Refusals.{frame_passes, frame_refused}
-use borrow.Author.Rules.{rules}
 use Rattle.line.proofs.print_frame.Goals as goal
 
 pub overflow_sub-s : goal.overflow_sub-s

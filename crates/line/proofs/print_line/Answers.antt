@@ -4,7 +4,6 @@ use lib.ListN.{length}
 use Rattle.answers.specs.Answers.{done_option}
 use Rattle.line.proofs.Showing.{reprint}
 use Rattle.line.proofs.Refusals.{line_refused, half_within, frame_long, frame_room}
-use borrow.Author.Rules.{rules}
 use Rattle.line.proofs.print_line.Goals as goal
 
 pub slice_bounds-frame-end : goal.slice_bounds-frame-end

@@ -4,7 +4,6 @@ use Prim.Native.Nat.{ℕ}
 use Rattle.line.specs.Line.{printed}
 use Rattle.line.proofs.Showing.{reprint}
 use native.Mathlib.Omega.{arith}
-use borrow.Author.Rules.{rules}
 use Rattle.line.proofs.refuse.Goals as goal
 
 pub returns : goal.returns

@@ -1,8 +1,6 @@
-use Prim.Native.Nat.{◌-◌}
 use native.Mathlib.Omega.{arith}
-use lib.ListN.{length}
 use Rattle.answers.specs.Rules.{map_words}
-use Rattle.map.proofs.Counting.{Counted, counted_none, counted_next, counted_all}
+use Rattle.map.proofs.Counting.{counted_none, counted_next, counted_all}
 use borrow.Author.Rules.{rules}
 use Rattle.map.proofs.count_checked.Goals as goal
 

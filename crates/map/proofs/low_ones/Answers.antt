@@ -2,7 +2,6 @@ use mathlib.Core.Path.{◌≡◌, ap}
 use Prim.Native.Nat.{ℕ, ◌^◌, ◌-◌}
 use native.Mathlib.Omega.{arith}
 use Rattle.map.proofs.Words.{one_shl_pos, code_low}
-use borrow.Author.Rules.{rules}
 use Rattle.map.proofs.low_ones.Goals as goal
 
 pub returns-then-k-eq64 : goal.returns-then-k-eq64

@@ -1,6 +1,5 @@
 use native.Mathlib.Omega.{arith}
 use Rattle.map.proofs.Words.{ones_masked, ones_most, ones_fit}
-use borrow.Author.Rules.{rules}
 use Rattle.map.proofs.ones_below.Goals as goal
 
 pub overflow_cast-result : goal.overflow_cast-result

@@ -1,8 +1,5 @@
-use Prim.Native.Nat.{◌-◌}
 use native.Mathlib.Omega.{arith}
-use lib.ListN.{length, length-set}
-use Rattle.map.proofs.Starting.{Filled, filled_none, filled_next, filled_all}
-use borrow.Author.Rules.{rules}
+use Rattle.map.proofs.Starting.{filled_none, filled_next, filled_all}
 use Rattle.map.proofs.start_checked.Goals as goal
 
 pub loop-at-init : goal.loop-at-init

@@ -1,8 +1,6 @@
 use Prim.Native.Nat.{◌-◌}
-use native.Mathlib.Omega.{arith}
-use lib.ListN.{length, length-set}
-use Rattle.map.proofs.Starting.{Filled, filled_none, filled_next, filled_all}
-use borrow.Author.Rules.{rules}
+use lib.ListN.{length}
+use Rattle.map.proofs.Starting.{Filled}
 use Rattle.map.proofs.start_checked.Given as goal
 
 abbrev pub invariant-loop-at : goal.invariant-loop-at

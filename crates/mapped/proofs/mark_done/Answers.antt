@@ -1,5 +1,4 @@
 use Rattle.mapped.proofs.Answered.{done_finished, done_refused}
-use borrow.Author.Rules.{rules}
 use Rattle.mapped.proofs.mark_done.Goals as goal
 
 pub returns-in-Done : goal.returns-in-Done

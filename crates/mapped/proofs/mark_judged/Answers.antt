@@ -1,5 +1,4 @@
 use Rattle.mapped.proofs.Answered.{judged_whole, judged_doubtful, judged_refused}
-use borrow.Author.Rules.{rules}
 use Rattle.mapped.proofs.mark_judged.Goals as goal
 
 pub returns-in-Whole : goal.returns-in-Whole

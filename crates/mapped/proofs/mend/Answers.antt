@@ -1,6 +1,5 @@
 use Rattle.mapped.proofs.Answered.{mended}
 use Rattle.mapped.proofs.Public.{bit_within, call_done, call_refused}
-use borrow.Author.Rules.{rules}
 use Rattle.mapped.proofs.mend.Goals as goal
 
 pub put_mark-requires : goal.put_mark-requires

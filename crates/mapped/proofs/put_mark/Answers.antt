@@ -1,5 +1,4 @@
 use Rattle.mapped.proofs.Answered.{as_marked}
-use borrow.Author.Rules.{rules}
 use Rattle.mapped.proofs.put_mark.Goals as goal
 
 pub returns-in-Clears : goal.returns-in-Clears

@@ -1,5 +1,4 @@
 use Rattle.mapped.proofs.Public.{bit_within, read_done, read_refused}
-use borrow.Author.Rules.{rules}
 use Rattle.mapped.proofs.read.Goals as goal
 
 pub put_mark-requires : goal.put_mark-requires

@@ -1,5 +1,4 @@
 use Rattle.mapped.proofs.Public.{survey_done, survey_refused}
-use borrow.Author.Rules.{rules}
 use Rattle.mapped.proofs.survey.Goals as goal
 
 pub returns-in-Done : goal.returns-in-Done

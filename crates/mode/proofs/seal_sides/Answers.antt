@@ -9,7 +9,6 @@ use Rattle.fips197.specs.Aes.{cipher_number}
 use Rattle.fips197.proofs.Bounds.{cipher_lt}
 use Rattle.mode.specs.Sealing.{remote_block, sides}
 use Rattle.mode.proofs.Laws.{sides_other}
-use borrow.Author.Rules.{rules}
 use Rattle.mode.proofs.seal_sides.Goals as goal
 
 pub returns : goal.returns

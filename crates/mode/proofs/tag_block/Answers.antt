@@ -2,7 +2,6 @@ use mathlib.Core.Path.{refl}
 use Rattle.block.specs.Value.{value}
 use Rattle.hash.specs.Powers.{element_at, key_of}
 use Rattle.mode.proofs.Laws.{tag_is}
-use borrow.Author.Rules.{rules}
 use Rattle.mode.proofs.tag_block.Goals as goal
 
 pub returns : goal.returns

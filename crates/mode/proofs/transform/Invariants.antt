@@ -1,13 +1,10 @@
-use mathlib.Core.Path.{◌≡◌, refl, ap₂, ◌∙◌}
-use Prim.Native.Nat.{ℕ, ◌+◌, ◌-◌, ◌≤◌}
-use native.Mathlib.Omega.{arith}
-use borrow.Author.Rules.{rules}
+use mathlib.Core.Path.{◌≡◌}
+use Prim.Native.Nat.{◌-◌, ◌≤◌}
 use Rattle.block.specs.Value.{value}
 use Rattle.fips197.specs.Aes.{cipher_number}
 use Rattle.mode.specs.Sealing.{times_x, pad}
 use Rattle.mode.specs.Transforms.{transformed}
-use Rattle.mode.proofs.Blockwise.{Written, written_none, written_next, written_all}
-use Rattle.mode.proofs.Laws.{mask_next, pad_is}
+use Rattle.mode.proofs.Blockwise.{Written}
 use Rattle.mode.proofs.transform.Given as goal
 
 abbrev pub invariant-loop-j : goal.invariant-loop-j

@@ -5,7 +5,6 @@ use lib.Bits.{bit_xor}
 use Rattle.block.specs.Field.{mul, x⁻¹, 1⊕x⁻¹}
 use Rattle.block.specs.Value.{value}
 use Rattle.block.proofs.Field.{mul_two_l}
-use borrow.Author.Rules.{rules}
 use Rattle.mode.proofs.transform_block.Goals as goal
 
 pub returns-in-SealLocal : goal.returns-in-SealLocal

@@ -4,7 +4,6 @@ use lib.ListN.{length}
 use Rattle.answers.specs.Answers.{done_option}
 use Rattle.answers.proofs.Passing.{pair_passed}
 use Rattle.sector.proofs.Public.{combine_passes, combine_refuses}
-use borrow.Author.Rules.{rules}
 use Rattle.sector.proofs.combine.Goals as goal
 
 pub xor_bytes-requires : goal.xor_bytes-requires

@@ -4,7 +4,6 @@ use Rattle.mode.specs.Sealing.{key_from, triple}
 use Rattle.answers.specs.Answers.{done_option}
 use Rattle.answers.proofs.Passing.{parts_passed}
 use Rattle.sector.proofs.Public.{judge_passes, judge_refuses}
-use borrow.Author.Rules.{rules}
 use Rattle.sector.proofs.judge.Goals as goal
 
 pub judge_checked-requires : goal.judge_checked-requires

@@ -1,7 +1,6 @@
 use native.Mathlib.Omega.{arith}
 use lib.ListN.{length-take}
 use Rattle.sector.proofs.Prepared.{ready, judged_is}
-use borrow.Author.Rules.{rules}
 use Rattle.sector.proofs.judge_checked.Goals as goal
 
 pub slice_bounds-sum-end : goal.slice_bounds-sum-end

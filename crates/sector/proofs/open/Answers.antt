@@ -1,5 +1,4 @@
 use Rattle.sector.specs.Calls.{open_call}
-use borrow.Author.Rules.{rules}
 use Rattle.sector.proofs.open.Goals as goal
 
 pub returns : goal.returns

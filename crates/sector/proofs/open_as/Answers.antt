@@ -1,5 +1,4 @@
 use Rattle.sector.proofs.Opening.{open_accepted, open_passes, open_refuses}
-use borrow.Author.Rules.{rules}
 use Rattle.sector.proofs.open_as.Goals as goal
 
 pub open_checked-requires : goal.open_checked-requires

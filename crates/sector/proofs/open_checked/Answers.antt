@@ -2,7 +2,6 @@ use native.Mathlib.Omega.{arith}
 use lib.ListN.{length-take}
 use Rattle.verdict.specs.Judging.{side_named}
 use Rattle.sector.proofs.Opening.{opening_ready, opened_is}
-use borrow.Author.Rules.{rules}
 use Rattle.sector.proofs.open_checked.Goals as goal
 
 pub slice_bounds-open_in-end-2 : goal.slice_bounds-open_in-end-2

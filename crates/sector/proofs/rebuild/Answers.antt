@@ -1,7 +1,6 @@
 use Rattle.mode.specs.Scheme.{dcm, scheme}
 use Rattle.mode.specs.Sealing.{sealed}
 use Rattle.sector.specs.Calls.{rebuild_call}
-use borrow.Author.Rules.{rules}
 use Rattle.sector.proofs.rebuild.Goals as goal
 
 pub returns : goal.returns

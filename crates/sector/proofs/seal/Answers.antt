@@ -4,7 +4,6 @@ use Rattle.mode.specs.Sealing.{key_from, triple}
 use Rattle.answers.specs.Answers.{done_option}
 use Rattle.answers.proofs.Passing.{parts_passed}
 use Rattle.sector.proofs.Public.{seal_passes, seal_refuses}
-use borrow.Author.Rules.{rules}
 use Rattle.sector.proofs.seal.Goals as goal
 
 pub seal_checked-requires : goal.seal_checked-requires

@@ -1,6 +1,5 @@
 use Rattle.block.specs.Value.{value}
 use Rattle.sector.proofs.Prepared.{sealed_is}
-use borrow.Author.Rules.{rules}
 use Rattle.sector.proofs.seal_in.Goals as goal
 
 pub returns : goal.returns

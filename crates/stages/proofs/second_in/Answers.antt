@@ -1,5 +1,4 @@
 use Rattle.stages.proofs.Stages.{second_fits, second_fails}
-use borrow.Author.Rules.{rules}
 use Rattle.stages.proofs.second_in.Goals as goal
 
 pub returns-then-fits_local : goal.returns-then-fits_local

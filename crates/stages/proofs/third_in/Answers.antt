@@ -1,5 +1,4 @@
 use Rattle.stages.proofs.Stages.{third_fits, third_fails_local, third_fails_tag}
-use borrow.Author.Rules.{rules}
 use Rattle.stages.proofs.third_in.Goals as goal
 
 pub returns-then-fits_tag : goal.returns-then-fits_tag

@@ -1,5 +1,4 @@
 use Rattle.stages.proofs.Writes.{all_written}
-use borrow.Author.Rules.{rules}
 use Rattle.stages.proofs.write_all.Goals as goal
 
 pub returns : goal.returns

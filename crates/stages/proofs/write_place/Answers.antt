@@ -1,5 +1,4 @@
 use Rattle.stages.proofs.Writes.{local_written, tag_written, remote_written}
-use borrow.Author.Rules.{rules}
 use Rattle.stages.proofs.write_place.Goals as goal
 
 pub returns-in-Local : goal.returns-in-Local

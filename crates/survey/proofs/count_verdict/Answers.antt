@@ -1,9 +1,6 @@
 use mathlib.Core.Path.{refl}
 use native.Mathlib.Numerals.{add-one}
-use Rattle.answers.specs.declared.Refusal.TheVariants.{Lost}
-use Rattle.answers.proofs.Numbers.{tags, without, other_tag}
 use Rattle.survey.proofs.Surveying.{tells_whole, tells_doubtful, tells_lost, tells_clashing, counts_one}
-use borrow.Author.Rules.{rules}
 use Rattle.survey.proofs.count_verdict.Goals as goal
 
 pub returns-in-Whole : goal.returns-in-Whole
@@ -16,4 +13,4 @@ pub returns-in-Lost : goal.returns-in-Lost
 returns-in-Lost c = λ w e. counts_one w (tells_lost c.in-Refused.is c.in-Lost.is w e) _ refl refl refl (add-one _)
 
 pub returns-in_default : goal.returns-in_default
-returns-in_default c = λ w e. counts_one w (tells_clashing c.in-Refused.is (other_tag Lost (without Lost tags) c.in_default.keys2 tt) w e) _ refl refl (add-one _) refl
+returns-in_default c = λ w e. counts_one w (tells_clashing c.in-Refused.is c.in_default.not-Lost w e) _ refl refl (add-one _) refl

@@ -1,10 +1,6 @@
-use Prim.Native.Nat.{◌-◌}
 use native.Mathlib.Omega.{arith}
-use Rattle.mode.specs.Prepared.{scheme_of}
-use Rattle.survey.specs.Inner.{verdict_by, maps}
-use Rattle.images.specs.Lent.{Scratch}
 use Rattle.images.proofs.Rooms.{within_room}
-use Rattle.survey.proofs.Surveying.{SameSizes, Loop, loop_none, loop_next, loop_all}
+use Rattle.survey.proofs.Surveying.{loop_none, loop_next, loop_all}
 use borrow.Author.Rules.{rules}
 use Rattle.survey.proofs.judge_all.Goals as goal
 
@@ -15,8 +11,7 @@ pub judge_at-judged-requires : goal.judge_at-judged-requires
 judge_at-judged-requires c = search (rules, within_room)
 
 pub loop-i-preserved : goal.loop-i-preserved
-loop-i-preserved c =
-    (
+loop-i-preserved c = (
   loop_next _ _ (search rules) (omega arith) (search rules) c.count_verdict-next.ensures c.mark_kind.ensures,
   search rules,
   search rules,

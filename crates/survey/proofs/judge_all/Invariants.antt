@@ -1,11 +1,8 @@
 use Prim.Native.Nat.{◌-◌}
-use native.Mathlib.Omega.{arith}
 use Rattle.mode.specs.Prepared.{scheme_of}
 use Rattle.survey.specs.Inner.{verdict_by, maps}
 use Rattle.images.specs.Lent.{Scratch}
-use Rattle.images.proofs.Rooms.{within_room}
-use Rattle.survey.proofs.Surveying.{SameSizes, Loop, loop_none, loop_next, loop_all}
-use borrow.Author.Rules.{rules}
+use Rattle.survey.proofs.Surveying.{SameSizes, Loop}
 use Rattle.survey.proofs.judge_all.Given as goal
 
 abbrev pub invariant-loop-i : goal.invariant-loop-i

@@ -1,9 +1,8 @@
-use mathlib.Core.Logic.{⊎_elim}
-use Prim.Native.Nat.{◌-◌}
 use native.Mathlib.Omega.{arith}
-use Rattle.survey.proofs.Listing.{Listing, listing_none, listing_room, listing_one, listing_same, listing_all}
+use Rattle.survey.proofs.Listing.{listing_none, listing_room, listing_one, listing_same, listing_all}
 use borrow.Author.Rules.{rules}
 use Rattle.survey.proofs.list_kind.Goals as goal
+use Rattle.survey.proofs.list_kind.Goals.{then-test_bit, else-test_bit}
 
 pub loop-i-init : goal.loop-i-init
 loop-i-init c = search (rules, listing_none)
@@ -24,7 +23,10 @@ pub loop-i-preserved : goal.loop-i-preserved
 loop-i-preserved c =
     let v = c.loop-i.invariant in
     let e = c.test_bit.ensures in
-    ⊎_elim (λ a. listing_one _ _ _ _ v (omega arith) e a.0.taken a.1 a.2) (λ a. listing_same _ _ _ _ v (omega arith) e a.0.left a.1 a.2) c.if-test_bit.branch
+    elim c.if-test_bit.branch [
+      | then-test_bit w ↦ listing_one _ _ _ _ v (omega arith) e w.if-test_bit.true w.list-is w.next-is
+      | else-test_bit w ↦ listing_same _ _ _ _ v (omega arith) e w.if-test_bit.false w.list-is w.next-is
+    ]
 
 pub returns : goal.returns
 returns c = listing_all _ _ _ _ c.loop-i.invariant (omega arith)

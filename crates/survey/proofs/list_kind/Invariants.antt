@@ -1,8 +1,5 @@
-use mathlib.Core.Logic.{⊎_elim}
 use Prim.Native.Nat.{◌-◌}
-use native.Mathlib.Omega.{arith}
-use Rattle.survey.proofs.Listing.{Listing, listing_none, listing_room, listing_one, listing_same, listing_all}
-use borrow.Author.Rules.{rules}
+use Rattle.survey.proofs.Listing.{Listing}
 use Rattle.survey.proofs.list_kind.Given as goal
 
 abbrev pub invariant-loop-i : goal.invariant-loop-i

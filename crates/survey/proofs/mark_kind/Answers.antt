@@ -1,8 +1,5 @@
 use mathlib.Core.Path.{refl}
-use Rattle.answers.specs.declared.Refusal.TheVariants.{Lost}
-use Rattle.answers.proofs.Numbers.{tags, without, other_tag}
 use Rattle.survey.proofs.Surveying.{tells_whole, tells_doubtful, tells_lost, tells_clashing, marks_one}
-use borrow.Author.Rules.{rules}
 use Rattle.survey.proofs.mark_kind.Goals as goal
 
 pub returns-in-Whole : goal.returns-in-Whole
@@ -15,4 +12,4 @@ pub returns-in-Lost : goal.returns-in-Lost
 returns-in-Lost c = λ w e. marks_one w (tells_lost c.in-Refused.is c.in-Lost.is w e) _ _ c.set_bit-in-Lost.ensures refl refl
 
 pub returns-in_default : goal.returns-in_default
-returns-in_default c = λ w e. marks_one w (tells_clashing c.in-Refused.is (other_tag Lost (without Lost tags) c.in_default.keys2 tt) w e) _ _ refl c.set_bit-in_default.ensures refl
+returns-in_default c = λ w e. marks_one w (tells_clashing c.in-Refused.is c.in_default.not-Lost w e) _ _ refl c.set_bit-in_default.ensures refl

@@ -1,6 +1,5 @@
 use mathlib.Core.Path.{refl}
 use Rattle.report.specs.Survey.{health}
-use borrow.Author.Rules.{rules}
 use Rattle.survey.proofs.thousandths.Goals as goal
 
 pub returns : goal.returns

@@ -1,10 +1,5 @@
-use mathlib.Core.Path.{◌≡◌, refl}
-use Prim.Native.Nat.{◌-◌}
 use native.Mathlib.Omega.{arith}
-use lib.ListN.{length, drop}
-use Rattle.text.specs.Digits.{all_digits}
 use Rattle.text.proofs.Digits.{digits_turn, digits_no, digits_end}
-use borrow.Author.Rules.{rules}
 use Rattle.text.proofs.all_digits.Goals as goal
 
 -- `all_digits` meets its contract. The loop's invariant: whether all bytes are digits is whether those from i on are. Assumes nothing.

@@ -1,7 +1,6 @@
 use mathlib.Core.Path.{refl, sym, ◌∙◌}
 use native.Mathlib.Omega.{arith}
 use Rattle.text.proofs.Digits.{other_length, by_digits}
-use borrow.Author.Rules.{rules}
 use Rattle.text.proofs.decode.Goals as goal
 
 -- `decode` meets its contract. Assumes nothing.

@@ -1,8 +1,6 @@
-use Prim.Native.Nat.{◌+◌, ◌*◌, ◌-◌}
+use Prim.Native.Nat.{◌+◌, ◌*◌}
 use native.Mathlib.Omega.{arith}
-use lib.ListN.{length, length-set}
-use Rattle.text.proofs.Digits.{digit_at, pair_at, Decoding, decoding_start, decoding_turn, decoding_end}
-use borrow.Author.Rules.{rules}
+use Rattle.text.proofs.Digits.{digit_at, pair_at, decoding_start, decoding_turn, decoding_end}
 use Rattle.text.proofs.decode_digits.Goals as goal
 
 -- `decode_digits` meets its contract. The loop's invariant is `Decoding`. Assumes nothing.

@@ -1,8 +1,6 @@
-use Prim.Native.Nat.{◌+◌, ◌*◌, ◌-◌}
-use native.Mathlib.Omega.{arith}
-use lib.ListN.{length, length-set}
-use Rattle.text.proofs.Digits.{digit_at, pair_at, Decoding, decoding_start, decoding_turn, decoding_end}
-use borrow.Author.Rules.{rules}
+use Prim.Native.Nat.{◌-◌}
+use lib.ListN.{length}
+use Rattle.text.proofs.Digits.{Decoding}
 use Rattle.text.proofs.decode_digits.Given as goal
 
 abbrev pub invariant-loop-i : goal.invariant-loop-i

@@ -1,6 +1,5 @@
 use native.Mathlib.Omega.{arith}
 use Rattle.text.proofs.Digits.{decimal, upper, lower, other}
-use borrow.Author.Rules.{rules}
 use Rattle.text.proofs.digit_value.Goals as goal
 
 pub returns-in-48-to-57 : goal.returns-in-48-to-57

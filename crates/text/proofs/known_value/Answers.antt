@@ -1,5 +1,4 @@
 use Rattle.text.proofs.Digits.{known}
-use borrow.Author.Rules.{rules}
 use Rattle.text.proofs.known_value.Goals as goal
 
 -- `known_value` meets its contract. Assumes nothing.

@@ -1,8 +1,4 @@
-use mathlib.Core.Path.{◌≡◌, refl}
-use Prim.Native.Nat.{◌+◌, ◌-◌}
 use native.Mathlib.Omega.{arith}
-use lib.ListN.{length, drop}
-use Rattle.text.specs.Lines.{stretch}
 use Rattle.text.proofs.Stretches.{stretch_feed, stretch_byte, stretch_end}
 use Rattle.text.proofs.line_end.Goals as goal
 

@@ -2,7 +2,6 @@ use Rattle.block.specs.Value.{value}
 use Rattle.block.proofs.Lists.{bytes_all}
 use Rattle.verdict.specs.Judging.{side_named}
 use Rattle.verdict.proofs.Sides.{side_opened, tag_compared}
-use borrow.Author.Rules.{rules}
 use Rattle.verdict.proofs.opens.Goals as goal
 
 pub returns : goal.returns

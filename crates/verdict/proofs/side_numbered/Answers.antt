@@ -1,6 +1,5 @@
 use mathlib.Core.Path.{sym}
 use Rattle.verdict.proofs.Sides.{side_other}
-use borrow.Author.Rules.{rules}
 use Rattle.verdict.proofs.side_numbered.Goals as goal
 
 pub returns-else-number-eq0 : goal.returns-else-number-eq0

@@ -1,6 +1,5 @@
 use Rattle.history.specs.Volume.{mend}
 use Rattle.volume.proofs.Public.{call_within, call_refused, call_done}
-use borrow.Author.Rules.{rules}
 use Rattle.volume.proofs.mend.Goals as goal
 
 pub mend_checked-requires : goal.mend_checked-requires

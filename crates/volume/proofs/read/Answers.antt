@@ -1,5 +1,4 @@
 use Rattle.volume.proofs.Public.{read_within, read_done, read_refused}
-use borrow.Author.Rules.{rules}
 use Rattle.volume.proofs.read.Goals as goal
 
 pub read_checked-requires : goal.read_checked-requires

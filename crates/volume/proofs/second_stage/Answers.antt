@@ -1,6 +1,5 @@
 use lib.ListN.{length}
 use Rattle.volume.proofs.Public.{call_refused, long_within, stage_done}
-use borrow.Author.Rules.{rules}
 use Rattle.volume.proofs.second_stage.Goals as goal
 
 pub second_checked-requires : goal.second_checked-requires

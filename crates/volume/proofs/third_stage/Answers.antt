@@ -1,6 +1,5 @@
 use lib.ListN.{length}
 use Rattle.volume.proofs.Public.{call_refused, long_within, stage_done}
-use borrow.Author.Rules.{rules}
 use Rattle.volume.proofs.third_stage.Goals as goal
 
 pub third_checked-requires : goal.third_checked-requires
