@@ -42,7 +42,7 @@ fn with_archive(folder: PathBuf) -> Option<PathBuf> {
     archive.is_file().then(|| folder.canonicalize().ok())?
 }
 
-/// Where `rt staticlib mirror` writes the archive. Outside the repository it is
+/// Where `scripts/library mirror` puts the archive. Outside the repository it is
 /// not looked for: for a file that is never there, cargo would build this crate
 /// anew every time.
 fn in_repository() -> Option<PathBuf> {
@@ -71,7 +71,7 @@ fn what_to_do() -> String {
     format!(
         "{what_is_wrong} Do one of these:
 - set MIRROR_LIB_DIR to the folder that has {ARCHIVE}, as an absolute path;
-- in the repository, run `rt staticlib mirror` at its root, and leave MIRROR_LIB_DIR unset;
+- in the repository, run `scripts/library mirror` at its root, and leave MIRROR_LIB_DIR unset;
 - install the library so that `pkg-config --exact-version={RELEASE} mirror` succeeds, and leave
   MIRROR_LIB_DIR unset (PKG_CONFIG_PATH names the folder of mirror.pc if it is not a usual one)."
     )

@@ -4,7 +4,7 @@
  * stage on shared memory, as a mapped file would be. This program executes it instruction by instruction (ptrace), and behind each one
  * reads the sector, as a server would that is started again after a kill there. It counts the instructions behind which the sector reads
  * lost. It belongs to the documents, and not to the gate: another compiler may store a tag at once. Build and run it from the root of the
- * source tree, after `rt staticlib mirror`:
+ * source tree, after `scripts/library mirror`:
  *
  *   cc -O2 -Wall -Wextra -Werror -Iinclude tests/disk/steptag.c target/staticlib/libmirror.a -o target/steptag && target/steptag [SIZE]
  *
