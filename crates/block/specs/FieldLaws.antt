@@ -20,7 +20,7 @@ pub record FieldLaws : Type 0 where
   pub mul_comm : (a b : ℕ) → a < 2 ^ 128 → b < 2 ^ 128 → mul a b ≡ mul b a
   pub mul_assoc : (a b c : ℕ) → a < 2 ^ 128 → b < 2 ^ 128 → c < 2 ^ 128 → mul (mul a b) c ≡ mul a (mul b c)
   -- the factors 0, 1, x and 1⊕x
-  pub zero-mul : (b : ℕ) → mul 0 b ≡ 0
+  pub zero_mul : (b : ℕ) → mul 0 b ≡ 0
   pub mul_zero : (a : ℕ) → mul a 0 ≡ 0
   pub one_mul : (b : ℕ) → mul 1 b ≡ b
   pub x_mul : (b : ℕ) → mul 2 b ≡ double b

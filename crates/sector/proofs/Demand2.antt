@@ -15,13 +15,13 @@ use Rattle.mode.proofs.Laws.{sound}
 use Rattle.answers.specs.Rules.{is_zero_hash, first_of, open_rules}
 use Rattle.answers.proofs.Passing.{pair_pass, parts_pass, open_pass}
 use Rattle.verdict.specs.Judging.{verdict_outcome}
-use Rattle.verdict.specs.Verdict.{Fits, Verdict, whole, doubtful, lost, clashing, Means, judge, Side, localSide, remoteSide, place_of, other_side, side_of, opened}
+use Rattle.verdict.specs.Verdict.{Fits, Verdict, whole, doubtful, lost, clashing, Means, judge, Side, local_side, remote_side, place_of, other_side, side_of, opened}
 use Rattle.verdict.specs.Verdict as W
 use Rattle.verdict.proofs.JudgeExact.{FitsBut, but_local, but_tag, but_remote, one_for_a_pair, judge_exact}
 use Rattle.verdict.proofs.Numbers.{outcome_one}
 use Rattle.verdict.proofs.OpenExact.{open_plain, opened_none, open_exact}
 use Rattle.sector.specs.Calls.{open_outcome, seal_call, judge_call, open_call, rebuild_call, combine_call}
-use Rattle.sector.specs.Demand2.{side_number, SealsTo, Judges, Opens, Rebuilds, Demand2_whole, SizeBounds}
+use Rattle.sector.specs.Demand2.{side_number, SealsTo, Judges, Opens, Rebuilds, Demand2Whole, SizeBounds}
 use Rattle.sector.proofs.Opening.{outcome_some, outcome_none}
 use Rattle.answers.proofs.Rules.{settle_none}
 use Rattle.sector.proofs.Public.{seal_passes, judge_passes, combine_passes}
@@ -38,12 +38,12 @@ module _ (f : List ℕ → List ℕ) (out : List ℕ) where
   none_says (some P) e = absurd (let z : ◌≡◌ {A = ℕ} 0 5 = ap (λ (u : ℕ × List ℕ). u.0) e in omega arith)
 
 side_back : (d : Side) → side_of (side_number d) ≡ d
-side_back localSide = refl
-side_back remoteSide = refl
+side_back local_side = refl
+side_back remote_side = refl
 
 side_right : (d : Side) → (eqb (side_number d) 0 || eqb (side_number d) 1) ≡ true
-side_right localSide = refl
-side_right remoteSide = refl
+side_right local_side = refl
+side_right remote_side = refl
 
 module _ (k : Key) (volume s : ℕ) (ek : is_key k ≡ true) (es : is_size s ≡ true) where
   abbrev S : Scheme
@@ -194,8 +194,8 @@ module _ (k : Key) (volume s : ℕ) (ek : is_key k ≡ true) (es : is_size s ≡
     -- under a key that is accepted
     module _ (eh : is_zero_hash k ≡ false) where
       side_plain : (d : Side) → Plain s (on t (place_of d))
-      side_plain localSide = long local
-      side_plain remoteSide = long remote
+      side_plain local_side = long local
+      side_plain remote_side = long remote
 
       judges_sealed : judge_call k volume address t out ≡ (0, P)
       unfolding sealed scheme dcm
@@ -211,7 +211,7 @@ module _ (k : Key) (volume s : ℕ) (ek : is_key k ≡ true) (es : is_size s ≡
       rebuilds_sealed d =
           ((rebuilds eh address d (on t (place_of d)) t.tag out (side_plain d) (long tag) size).writes (on t (place_of (other_side d)))).1 (P, itself_sealed d, refl)
 
-pub demand_2 : Demand2_whole
+pub demand_2 : Demand2Whole
 demand_2 k volume s ek es = (
   record {
     the_mode = the_mode k volume s ek es;

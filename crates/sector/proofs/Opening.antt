@@ -22,7 +22,7 @@ use Rattle.answers.specs.Rules.{first_of, open_rules}
 use Rattle.answers.specs.Passing.{Sizes}
 use Rattle.verdict.specs.Judging.{sealing_of}
 use Rattle.verdict.specs.Verdict.{Side, other_side, side_of, open_side}
-use Rattle.verdict.proofs.Opened.{Side_known, found, missing, rebuilt}
+use Rattle.verdict.proofs.Opened.{SideKnown, found, missing, rebuilt}
 use Rattle.answers.proofs.Passing.{open_passed}
 use Rattle.sector.specs.declared.Wanted.{Wanted}
 use Rattle.sector.specs.declared.Wanted.TheVariants.{Plaintext, Opposite}
@@ -42,7 +42,7 @@ outcome_none f out e = ap (λ r. open_outcome f r out) e
 
 -- ---- the sector x of the side d, opened with the tag g to o, and b says whether o has the tag
 
-module _ (w p : List ℕ) (T : ℕ) (d : Side) (x g : List ℕ) (known : Side_known x g) (out : List ℕ) {o : List ℕ} {b : Bool}
+module _ (w p : List ℕ) (T : ℕ) (d : Side) (x g : List ℕ) (known : SideKnown x g) (out : List ℕ) {o : List ℕ} {b : Bool}
     (tried : (o ≡ open_side (scheme_of w p) d g x) × (b ≡ same g ((scheme_of w p).sealed T o).tag)) where
   pub none_fits : (h : Wanted) → b ≡ false → opened_as h (scheme_of w p) T d x g out ≡ (5, out)
   none_fits h n = outcome_none (wanted_of h (scheme_of w p) T d) out (missing w p T d x g known o b tried n)

@@ -8,12 +8,12 @@ use Rattle.mode.specs.Scheme.{Place, on, wide, Sector, is_key, is_size, scheme}
 use Rattle.sector.specs.Calls.{seal_call, judge_call, open_call, rebuild_call, combine_call}
 use Rattle.answers.specs.Answers.{doubt_number}
 use Rattle.answers.specs.Rules.{is_zero_hash}
-use Rattle.verdict.specs.Verdict.{Fits, whole, doubtful, lost, clashing, Means, Side, localSide, remoteSide, place_of, other_side, JudgeExact, OpenExact}
+use Rattle.verdict.specs.Verdict.{Fits, whole, doubtful, lost, clashing, Means, Side, local_side, remote_side, place_of, other_side, JudgeExact, OpenExact}
 
 -- the number of a side
 abbrev pub side_number : Side → ℕ
-side_number localSide = 0
-side_number remoteSide = 1
+side_number local_side = 0
+side_number remote_side = 1
 
 -- x and g are the sector on the side d and the tag that the plaintext P of s bytes seals to, under that key, number and address
 pub record SealsTo (k : Key) (volume s address : ℕ) (d : Side) (x g P : List ℕ) : Type 0 where
@@ -72,8 +72,8 @@ pub record Demand2 (k : Key) (volume s : ℕ) : Type 0 where
       → rebuild_call k volume address (side_number d) (on (sealed k volume address P) (place_of d)) (sealed k volume address P).tag out ≡ (0, on (sealed k volume address P) (place_of (other_side d)))
 
 -- under every key of 32 bytes, every sector size and every number
-abbrev pub Demand2_whole : Type 0
-Demand2_whole = (k : Key) (volume s : ℕ) → is_key k ≡ true → is_size s ≡ true → EveryKey k volume s × (is_zero_hash k ≡ false → Demand2 k volume s)
+abbrev pub Demand2Whole : Type 0
+Demand2Whole = (k : Key) (volume s : ℕ) → is_key k ≡ true → is_size s ≡ true → EveryKey k volume s × (is_zero_hash k ≡ false → Demand2 k volume s)
 
 -- document 01's examples at the bounds: sizes 15 and 4,112 are refused, 16 and 4,096 pass
 pub record SizeBounds : Type 0 where

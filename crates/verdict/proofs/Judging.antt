@@ -20,7 +20,7 @@ use Rattle.mode.proofs.Laws.{dcm_lawful}
 use Rattle.mode.specs.Prepared.{scheme_of}
 use Rattle.answers.specs.Passing.{Sizes}
 use Rattle.verdict.specs.Judging.{verdict_outcome, judged_by, SumFits, SumFails}
-use Rattle.verdict.specs.Verdict.{Fits, fits, candidate, judge, Verdict, Side, localSide, remoteSide, open_side}
+use Rattle.verdict.specs.Verdict.{Fits, fits, candidate, judge, Verdict, Side, local_side, remote_side, open_side}
 use Rattle.verdict.proofs.JudgeExact.{fits-Fits, misfits}
 use Rattle.verdict.proofs.Cases as cases
 use Rattle.verdict.proofs.Sides.{tag_compared}
@@ -70,27 +70,27 @@ module _ (w p : List ℕ) (ctx : Context) (l g r : List ℕ) (known : Known l g 
   tried_no : (d : Side) (x o : List ℕ) {b : Bool} → Tried d x o b → b ≡ false → Fits S T t tag (open_side S d g x) → ⊥
   tried_no d x o e n = ne_same g _ (ap (λ (Q : List ℕ). same g (S.sealed T Q).tag) (sym e.0) ∙ sym e.1 ∙ n)
 
-  left_yes : (o : List ℕ) {b : Bool} → Tried localSide l o b → b ≡ true → Fits S T t tag (candidate S T t remote)
+  left_yes : (o : List ℕ) {b : Bool} → Tried local_side l o b → b ≡ true → Fits S T t tag (candidate S T t remote)
   unfolding candidate
-  left_yes o e y = tried_yes localSide l o e y
+  left_yes o e y = tried_yes local_side l o e y
 
-  left_no : (o : List ℕ) {b : Bool} → Tried localSide l o b → b ≡ false → Fits S T t tag (candidate S T t remote) → ⊥
+  left_no : (o : List ℕ) {b : Bool} → Tried local_side l o b → b ≡ false → Fits S T t tag (candidate S T t remote) → ⊥
   unfolding candidate
-  left_no o e n = tried_no localSide l o e n
+  left_no o e n = tried_no local_side l o e n
 
-  right_yes : (o : List ℕ) {b : Bool} → Tried remoteSide r o b → b ≡ true → Fits S T t tag (candidate S T t local)
+  right_yes : (o : List ℕ) {b : Bool} → Tried remote_side r o b → b ≡ true → Fits S T t tag (candidate S T t local)
   unfolding candidate
-  right_yes o e y = tried_yes remoteSide r o e y
+  right_yes o e y = tried_yes remote_side r o e y
 
-  right_no : (o : List ℕ) {b : Bool} → Tried remoteSide r o b → b ≡ false → Fits S T t tag (candidate S T t local) → ⊥
+  right_no : (o : List ℕ) {b : Bool} → Tried remote_side r o b → b ≡ false → Fits S T t tag (candidate S T t local) → ⊥
   unfolding candidate
-  right_no o e n = tried_no remoteSide r o e n
+  right_no o e n = tried_no remote_side r o e n
 
-  left_is : (o : List ℕ) {b : Bool} → Tried localSide l o b → o ≡ candidate S T t remote
+  left_is : (o : List ℕ) {b : Bool} → Tried local_side l o b → o ≡ candidate S T t remote
   unfolding candidate
   left_is o e = e.0
 
-  right_is : (o : List ℕ) {b : Bool} → Tried remoteSide r o b → o ≡ candidate S T t local
+  right_is : (o : List ℕ) {b : Bool} → Tried remote_side r o b → o ≡ candidate S T t local
   unfolding candidate
   right_is o e = e.0
 
@@ -141,13 +141,13 @@ module _ (w p : List ℕ) (ctx : Context) (l g r : List ℕ) (known : Known l g 
       fits_no_tag : Fits S T t tag (candidate S T t tag) → ⊥
       fits_no_tag x = misfits S T t tag sum f.fits_no_tag (subst (λ (Q : List ℕ). Fits S T t tag Q) (sym (sum_is sum f.is_sum)) x)
 
-      pub clash_left : {o : List ℕ} {x : Bool} → Tried localSide l o x → x ≡ true → judged_by w p ctx l g r out ≡ (7, out)
+      pub clash_left : {o : List ℕ} {x : Bool} → Tried local_side l o x → x ≡ true → judged_by w p ctx l g r out ≡ (7, out)
       clash_left {o} e y = answer out (cases.clash_left (length l) S lawful T t sector fits-sides fits_no_tag (left_yes o e y))
 
-      pub clash_right : {o : List ℕ} {x : Bool} → Tried remoteSide r o x → x ≡ true → judged_by w p ctx l g r out ≡ (7, out)
+      pub clash_right : {o : List ℕ} {x : Bool} → Tried remote_side r o x → x ≡ true → judged_by w p ctx l g r out ≡ (7, out)
       clash_right {o} e y = answer out (cases.clash_right (length l) S lawful T t sector fits-sides fits_no_tag (right_yes o e y))
 
-      pub sum_only : {a b : List ℕ} {x y : Bool} → Tried localSide l a x → Tried remoteSide r b y → x ≡ false → y ≡ false
+      pub sum_only : {a b : List ℕ} {x y : Bool} → Tried local_side l a x → Tried remote_side r b y → x ≡ false → y ≡ false
           → {o : List ℕ} → o ≡ sum → judged_by w p ctx l g r out ≡ (0x82, o)
       sum_only {a} {b} e d nx ny eo =
           answer out (cases.doubtful_tag (length l) S lawful T t sector fits-sides fits_no_tag (left_no a e nx) (right_no b d ny))
@@ -155,7 +155,7 @@ module _ (w p : List ℕ) (ctx : Context) (l g r : List ℕ) (known : Known l g 
 
     -- ---- it does not
 
-    module _ (f : SumFails w p ctx l g r) {a b : List ℕ} {x y : Bool} (left : Tried localSide l a x) (right : Tried remoteSide r b y) where
+    module _ (f : SumFails w p ctx l g r) {a b : List ℕ} {x y : Bool} (left : Tried local_side l a x) (right : Tried remote_side r b y) where
       fails : Fits S T t remote (candidate S T t tag) → ⊥
       unfolding SumFails candidate
       fails z = misfits S T t remote (xor_bytes l r) f z

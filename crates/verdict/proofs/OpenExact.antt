@@ -8,17 +8,17 @@ use native.Mathlib.Omega.{arith}
 use Rattle.block.specs.Bytes.{Plain, same}
 use Rattle.block.proofs.Lists.{and_left, and_right, and_both, same_eq, eq_same}
 use Rattle.mode.specs.Scheme.{on, Scheme, Lawful}
-use Rattle.verdict.specs.Verdict.{Side, localSide, remoteSide, place_of, open_side, opened, FitsBoth, OpenExact}
+use Rattle.verdict.specs.Verdict.{Side, local_side, remote_side, place_of, open_side, opened, FitsBoth, OpenExact}
 
 module _ (s : ℕ) (S : Scheme) (L : Lawful s S) (T : ℕ) where
   -- sealing and then opening gives the plaintext back
   back : (d : Side) (P : List ℕ) → Plain s P → open_side S d (S.sealed T P).tag (on (S.sealed T P) (place_of d)) ≡ P
-  back localSide P h = L.left T P h
-  back remoteSide P h = L.right T P h
+  back local_side P h = L.left T P h
+  back remote_side P h = L.right T P h
 
   pub open_plain : (d : Side) (g x : List ℕ) → Plain 16 g → Plain s x → Plain s (open_side S d g x)
-  open_plain localSide g x p q = L.plain_local g x p q
-  open_plain remoteSide g x p q = L.plain_remote g x p q
+  open_plain local_side g x p q = L.plain_local g x p q
+  open_plain remote_side g x p q = L.plain_remote g x p q
 
   module _ (d : Side) (g x : List ℕ) where
     abbrev found : List ℕ

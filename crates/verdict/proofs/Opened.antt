@@ -18,18 +18,18 @@ use Rattle.mode.specs.Transforms.{transformed_by}
 use Rattle.mode.proofs.Laws.{tag_lt, dcm_lawful}
 use Rattle.mode.specs.Prepared.{scheme_of}
 use Rattle.verdict.specs.Judging.{sealing_of}
-use Rattle.verdict.specs.Verdict.{Side, localSide, remoteSide, place_of, other_side, open_side, opened, FitsBoth}
+use Rattle.verdict.specs.Verdict.{Side, local_side, remote_side, place_of, other_side, open_side, opened, FitsBoth}
 use Rattle.verdict.proofs.OpenExact.{open_plain, opens_one, opened_some, opened_none}
 use Rattle.verdict.proofs.Sides.{tag_loaded}
 
 -- a side x and a tag g as lent
-pub record Side_known (x g : List ℕ) : Type 0 where
+pub record SideKnown (x g : List ℕ) : Type 0 where
   pub bytes_x : Bytes x
   pub bytes_g : Bytes g
   pub blocks : length x % 16 ≡ 0
   pub tag_size : length g ≡ 16
 
-module _ (w p : List ℕ) (T : ℕ) (d : Side) (x g : List ℕ) (known : Side_known x g) where
+module _ (w p : List ℕ) (T : ℕ) (d : Side) (x g : List ℕ) (known : SideKnown x g) where
   abbrev S : Scheme
   S = scheme_of w p
 
@@ -47,9 +47,9 @@ module _ (w p : List ℕ) (T : ℕ) (d : Side) (x g : List ℕ) (known : Side_kn
   fitting o e f = record { fits_tag = f; fits_side = side d e }
     where
       side : (d : Side) → o ≡ open_side S d g x → x ≡ on (S.sealed T o) (place_of d)
-      side localSide e =
+      side local_side e =
           sym (ap (λ (Q : List ℕ). (S.sealed T Q).local) e ∙ lawful.onto_left T g x plain_g plain_x (ap (λ (Q : List ℕ). (S.sealed T Q).tag) (sym e) ∙ sym f))
-      side remoteSide e =
+      side remote_side e =
           sym (ap (λ (Q : List ℕ). (S.sealed T Q).remote) e ∙ lawful.onto_right T g x plain_g plain_x (ap (λ (Q : List ℕ). (S.sealed T Q).tag) (sym e) ∙ sym f))
 
   found_plain : Plain (length x) (open_side S d g x)
@@ -82,5 +82,5 @@ module _ (w p : List ℕ) (T : ℕ) (d : Side) (x g : List ℕ) (known : Side_kn
 
         side : (d : Side) → transformed_by (sealing_of (other_side d)) w (tag_block (cipher_number w) (key_of p) T o) o
             ≡ on (S.sealed T o) (place_of (other_side d))
-        side localSide = refl
-        side remoteSide = refl
+        side local_side = refl
+        side remote_side = refl

@@ -21,7 +21,7 @@ use Rattle.mode.specs.Transforms.{transformed_by}
 use Rattle.mode.proofs.Laws.{tag_lt}
 use Rattle.mode.specs.Prepared.{scheme_of}
 use Rattle.verdict.specs.Judging.{opening_of}
-use Rattle.verdict.specs.Verdict.{Side, localSide, remoteSide, side_of, open_side}
+use Rattle.verdict.specs.Verdict.{Side, local_side, remote_side, side_of, open_side}
 
 -- a tag as a block
 pub tag_loaded : (g : List ℕ) → length g ≡ 16 → from_bytes (take 16 (drop 0 g)) ≡ from_bytes g
@@ -49,10 +49,10 @@ module _ (w p : List ℕ) (T : ℕ) (g : List ℕ) (size : length g ≡ 16) (byt
   pub side_opened : (d : Side) (x : List ℕ) (k : ℕ) {how : Direction} {o : List ℕ} → k ≡ from_bytes (take 16 (drop 0 g)) → how ≡ opening_of d
       → o ≡ transformed_by how w k x → o ≡ open_side (scheme_of w p) d g x
   unfolding dcm open_local_block open_remote_block
-  side_opened localSide x k ek eh e = e ∙ ap₂ (λ (h : Direction) (n : ℕ). transformed_by h w n x) eh (ek ∙ tag_loaded g size)
-  side_opened remoteSide x k ek eh e = e ∙ ap₂ (λ (h : Direction) (n : ℕ). transformed_by h w n x) eh (ek ∙ tag_loaded g size)
+  side_opened local_side x k ek eh e = e ∙ ap₂ (λ (h : Direction) (n : ℕ). transformed_by h w n x) eh (ek ∙ tag_loaded g size)
+  side_opened remote_side x k ek eh e = e ∙ ap₂ (λ (h : Direction) (n : ℕ). transformed_by h w n x) eh (ek ∙ tag_loaded g size)
 
 -- a side number other than 0
-pub side_other : (d : ℕ) → (d ≡ 0 → ⊥) → side_of d ≡ remoteSide
+pub side_other : (d : ℕ) → (d ≡ 0 → ⊥) → side_of d ≡ remote_side
 side_other zero h = absurd (h refl)
 side_other (suc d) h = refl

@@ -13,22 +13,22 @@ use Rattle.answers.specs.Answers.{found_number}
 use Rattle.answers.specs.Rules.{settle}
 use Rattle.verdict.specs.declared.Side as D
 use Rattle.verdict.specs.declared.Side.TheVariants.{Local, Remote}
-use Rattle.verdict.specs.Verdict.{Verdict, whole, doubtful, lost, clashing, fits, judge, Side, localSide, remoteSide}
+use Rattle.verdict.specs.Verdict.{Verdict, whole, doubtful, lost, clashing, fits, judge, Side, local_side, remote_side}
 
 -- the side that the code's enum names
 abbrev pub side_named : D.Side → Side
-side_named Local = localSide
-side_named Remote = remoteSide
+side_named Local = local_side
+side_named Remote = remote_side
 
 -- how the blocks of a side are opened
 abbrev pub opening_of : Side → Direction
-opening_of localSide = OpenLocal
-opening_of remoteSide = OpenRemote
+opening_of local_side = OpenLocal
+opening_of remote_side = OpenRemote
 
 -- and sealed
 abbrev pub sealing_of : Side → Direction
-sealing_of localSide = SealLocal
-sealing_of remoteSide = SealRemote
+sealing_of local_side = SealLocal
+sealing_of remote_side = SealRemote
 
 -- ---- what a verdict answers
 

@@ -85,25 +85,25 @@ judge S T t =
 -- ---- opening one side with the tag (document 01, "Without the volume")
 
 pub data Side : Type 0 where
-  localSide remoteSide : Side
+  local_side remote_side : Side
 
 -- the side with the number d: 0 is local, 1 remote
 abbrev pub side_of : ℕ → Side
-side_of zero = localSide
-side_of (suc d) = remoteSide
+side_of zero = local_side
+side_of (suc d) = remote_side
 
 abbrev pub place_of : Side → Place
-place_of localSide = local
-place_of remoteSide = remote
+place_of local_side = local
+place_of remote_side = remote
 
 abbrev pub other_side : Side → Side
-other_side localSide = remoteSide
-other_side remoteSide = localSide
+other_side local_side = remote_side
+other_side remote_side = local_side
 
 -- the only plaintext that can fit the tag g and the sector x of a side
 abbrev pub open_side : Scheme → Side → List ℕ → List ℕ → List ℕ
-open_side S localSide g x = S.open_local g x
-open_side S remoteSide g x = S.open_remote g x
+open_side S local_side g x = S.open_local g x
+open_side S remote_side g x = S.open_remote g x
 
 -- the plaintext that fits both, if there is one
 unfoldable pub opened : Scheme → ℕ → Side → List ℕ → List ℕ → Option (List ℕ)

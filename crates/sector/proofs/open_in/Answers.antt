@@ -1,13 +1,13 @@
 use Rattle.block.specs.Value.{value}
 use Rattle.block.proofs.Lists.{bytes_all}
 use Rattle.verdict.specs.Judging.{side_named}
-use Rattle.verdict.proofs.Opened.{Side_known}
+use Rattle.verdict.proofs.Opened.{SideKnown}
 use Rattle.sector.proofs.Opening.{none_fits, gives_plaintext, gives_opposite}
 use Rattle.sector.proofs.open_in.Goals as goal
 
 pub returns-in-Plaintext : goal.returns-in-Plaintext
 returns-in-Plaintext c =
-    let known : Side_known c.args.x.now c.args.tag.now = record {
+    let known : SideKnown c.args.x.now c.args.tag.now = record {
       bytes_x = bytes_all c.args.x.now (λ i h. (c.type_inv.x i).fits);
       bytes_g = bytes_all c.args.tag.now (λ i h. (c.type_inv.tag i).fits);
       blocks = c.requires.1.blocks;
@@ -18,7 +18,7 @@ returns-in-Plaintext c =
 
 pub returns-in-Opposite : goal.returns-in-Opposite
 returns-in-Opposite c =
-    let known : Side_known c.args.x.now c.args.tag.now = record {
+    let known : SideKnown c.args.x.now c.args.tag.now = record {
       bytes_x = bytes_all c.args.x.now (λ i h. (c.type_inv.x i).fits);
       bytes_g = bytes_all c.args.tag.now (λ i h. (c.type_inv.tag i).fits);
       blocks = c.requires.1.blocks;
@@ -29,7 +29,7 @@ returns-in-Opposite c =
 
 pub returns : goal.returns
 returns c =
-    let known : Side_known c.args.x.now c.args.tag.now = record {
+    let known : SideKnown c.args.x.now c.args.tag.now = record {
       bytes_x = bytes_all c.args.x.now (λ i h. (c.type_inv.x i).fits);
       bytes_g = bytes_all c.args.tag.now (λ i h. (c.type_inv.tag i).fits);
       blocks = c.requires.1.blocks;
