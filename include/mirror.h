@@ -1,5 +1,6 @@
 /*
- * mirror.h: the double ciphertext mirror. For C99 and C++11, and later ones; the library is libmirror.a, for x86-64 Linux.
+ * mirror.h: the double ciphertext mirror. For C99 and C++11, and later ones; the library is libmirror.a, for x86-64 Linux on a processor of
+ * level x86-64-v2 or above, as nearly all since about 2013 are. On a lesser one an illegal instruction ends the program.
  * SPDX-License-Identifier: Apache-2.0
  *
  * A SECTOR is kept in three places: a local sector, a tag and a remote sector. Sealing makes all three from a plaintext, under a key, a
