@@ -127,10 +127,6 @@ module _ (i : ℕ) (b : Bool) (v : Triple) (bytes : AnyBytes v) (a : Args) (P : 
       ∙ s
       ∙ ap (λ (j : ℕ). write_ruled i b (noted_write a.number j)) (sym e)
 
-  -- a read alone
-  lone : (k : ℕ) → marks (read (length P)) k ≡ marks mend k → Same k [] (k ∷ [])
-  lone k e = ap (λ (x : Mark). cond (eqb i a.number) (turned x b) b) e
-
   same_whole : Same 0 (stages P) (0 ∷ 0 ∷ 0 ∷ 0 ∷ [])
   unfolding is_finished
   same_whole = go (eqb i a.number)
@@ -151,6 +147,10 @@ module _ (i : ℕ) (b : Bool) (v : Triple) (bytes : AnyBytes v) (a : Args) (P : 
       at local = go (eqb i a.number)
       at tag = go (eqb i a.number)
       at remote = go (eqb i a.number)
+
+  -- a read alone
+  lone : (k : ℕ) → marks (read (length P)) k ≡ marks mend k → Same k [] (k ∷ [])
+  lone k e = ap (λ (x : Mark). cond (eqb i a.number) (turned x b) b) e
 
   write-ruled : ruled_all i b (list_notes (disk v m) (steps_of (disk v m) (one_call a P))) ≡ write_ruled i b (write_notes (disk v m) (one_call a P))
   unfolding is_finished lost_or_clashing
