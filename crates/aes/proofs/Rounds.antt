@@ -1,16 +1,17 @@
 -- A round by its table. Assumes nothing.
 use mathlib.Core.Path.{◌≡◌, sym, ap, ap₂, ◌∙◌}
 use mathlib.Core.List.{List, [], ◌∷◌, ◌++◌}
-use Prim.Native.Nat.{ℕ, suc, ◌+◌, ◌-◌, ◌*◌, ◌<◌}
+use Prim.Native.Nat.{ℕ, suc, ◌+◌, ◌-◌, ◌*◌, ◌^◌, ◌<◌}
 use native.Mathlib.Omega.{arith}
 use lib.Bits.{xor_comm}
 use lib.ListN.{length, get_or}
 use Rattle.block.specs.Bytes.{from_bytes, to_bytes, xor_bytes}
 use Rattle.block.proofs.Bits.{xor_assoc}
 use Rattle.block.proofs.Numbers.{to_from, to_bytes_xor}
-use Rattle.fips197.specs.Aes.{◌⊕◌, s_box, s_box_table, sub_bytes, shift_rows, mix_column, mix_columns, add_round_key, rounds, rotate}
+use Rattle.fips197.specs.Aes.{◌⊕◌, s_box, s_box_table, sub_bytes, sub_word, shift_rows, mix_column, mix_columns, add_round_key, rounds, rotate}
 use Rattle.fips197.proofs.Bytes.{length-tabulate, tabulate_at, double_lt, triple_lt, s_box_lt}
-use Rattle.aes.specs.declared.Columns.{Columns}
+use Rattle.aes.proofs.Words.{from_four}
+use Rattle.aes.specs.declared.columns.Columns.{Columns}
 use Rattle.aes.specs.Columns.{state_of, sub, last_column, round_column, EachColumn, mix_rows, round_table}
 
 -- ---- what stands in the table
@@ -42,6 +43,11 @@ unfolding last_column
 last_column_lem a b c d p q r s ep eq er es =
     (λ i. to_bytes 4 (from_bytes (ep i ∷ eq i ∷ er i ∷ es i ∷ [])))
     ∙ to_from (last_column a b c d) (s_box_lt _, (s_box_lt _, (s_box_lt _, (s_box_lt _, tt))))
+
+-- a column of one word's rows
+pub word_substituted : (r x : ℕ) → r < 2 ^ 32 → to_bytes 4 r ≡ last_column x x x x → r ≡ sub_word x
+unfolding sub_word sub_bytes last_column to_bytes
+word_substituted r x h e = from_four r h e
 
 -- four entries, each in its row, add up to the mixed column
 four_entries : (a b c d x y z u : ℕ)

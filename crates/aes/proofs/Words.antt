@@ -6,10 +6,12 @@ use native.Mathlib.Nat.{div-add-mod', mul-mod_left, add-zero, pow-suc}
 use native.Mathlib.Omega.{arith}
 use lib.Arith.{digits_lt, digits_div}
 use lib.Pow.{high, low, pow-add, shl-shr, shr_lt, mod-pow-add}
-use lib.Bits.{bit_or, or_shifted}
+use lib.Bits.{bit_or, or_shifted, or_comm}
+use mir.Syntax.{w32}
 use lib.ListN.{length, get_or, take, drop, length-drop}
 use lib.Seq.{get_or-drop, take_at, drop_at}
-use Rattle.block.specs.Bytes.{from_bytes, to_bytes, part}
+use Rattle.std.specs.Int.{from_be_bytes, to_be_bytes}
+use Rattle.block.specs.Bytes.{number, from_bytes, to_bytes, part}
 use Rattle.block.proofs.Numbers.{length-to_bytes, to_bytes-append, to_bytes_low, to_bytes_two, from_to}
 use Rattle.fips197.specs.Aes.{rotate}
 use Rattle.aes.specs.Columns.{state_of}
@@ -53,7 +55,21 @@ module _ (x j k : ℕ) (e : j + k ≡ 4) (h : x < 2 ^ 32) where
       (ap (rotate k) (ap (λ (m : ℕ). to_bytes m x) (sym e) ∙ to_bytes-append k j x)
       ∙ ap₂ ◌++◌ (drop_at (to_bytes k top) (to_bytes j x) k long) (take_at (to_bytes k top) (to_bytes j x) k long))
 
+  pub rotated_right : to_bytes 4 (bit_or (x / 2 ^ (8 * j)) (x * 2 ^ (8 * k) % 2 ^ 32)) ≡ rotate k (to_bytes 4 x)
+  rotated_right = ap (to_bytes 4) (or_comm (x / 2 ^ (8 * j)) (x * 2 ^ (8 * k) % 2 ^ 32)) ∙ rotated_bytes
+
 -- ---- a word from its bytes
+
+pub be_word : (a b c d : ℕ) → from_be_bytes w32 (a ∷ b ∷ c ∷ d ∷ []) ≡ from_bytes (a ∷ b ∷ c ∷ d ∷ [])
+unfolding number from_bytes
+be_word a b c d = omega arith
+
+pub be_bytes : (x : ℕ) → to_be_bytes w32 x ≡ to_bytes 4 x
+unfolding to_bytes
+be_bytes x =
+    let a : x / 0x100_0000 ≡ x / 256 / 256 / 256 = omega arith in
+    let b : x / 0x1_0000 ≡ x / 256 / 256 = omega arith in
+    λ i. a i % 256 ∷ b i % 256 ∷ x / 256 % 256 ∷ x % 256 ∷ []
 
 pub from_four : (r : ℕ) {l : List ℕ} → r < 2 ^ 32 → to_bytes 4 r ≡ l → r ≡ from_bytes l
 from_four r h e = sym (from_to 4 r h) ∙ ap from_bytes e

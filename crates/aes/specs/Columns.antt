@@ -2,7 +2,7 @@
 use Rattle.std.specs.Prelude.{ℕ, ◌≡◌, List, [], ◌∷◌, ◌++◌, get_or}
 use Rattle.block.specs.Bytes.{from_bytes, to_bytes, xor_bytes}
 use Rattle.fips197.specs.Aes.{◌•◌, s_box, mix_column, tabulate}
-use Rattle.aes.specs.declared.Columns.{Columns}
+use Rattle.aes.specs.declared.columns.Columns.{Columns}
 
 unfoldable pub state_of : Columns → List ℕ
 state_of s = to_bytes 4 s.c0 ++ to_bytes 4 s.c1 ++ to_bytes 4 s.c2 ++ to_bytes 4 s.c3

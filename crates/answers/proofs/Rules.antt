@@ -6,8 +6,7 @@ use mathlib.Core.Option.{Option, none, some}
 use Prim.Native.Nat.{ℕ}
 use native.Mathlib.Omega.{arith}
 use Rattle.answers.specs.declared.Refusal.{Refusal}
-use Rattle.answers.specs.declared.Done.{Done}
-use Rattle.answers.specs.declared.Done.TheVariants as D
+use Rattle.std.specs.Prelude.{Result, Ok, Err}
 use Rattle.answers.specs.Answers.{refusal_number, done_option}
 use Rattle.answers.specs.Rules.{Rule, first_of, first_some, settle}
 
@@ -59,10 +58,10 @@ module _ (ys : List Rule) where
 
   -- ---- a check of the first list, with what it answers
 
-  pub check_passed : (xs : List Rule) {d : Done} → first_of xs ≡ done_option d → d ≡ D.Done → first_of (xs ++ ys) ≡ first_of ys
+  pub check_passed : (xs : List Rule) {A : Type 0} {d : Result A Refusal} {a : A} → first_of xs ≡ done_option d → d ≡ Ok a → first_of (xs ++ ys) ≡ first_of ys
   check_passed xs e p = first_none xs (e ∙ ap done_option p)
 
-  pub check_refused : (xs : List Rule) {d : Done} {f : Refusal} → first_of xs ≡ done_option d → d ≡ D.Refused f → first_of (xs ++ ys) ≡ some (refusal_number f)
+  pub check_refused : (xs : List Rule) {A : Type 0} {d : Result A Refusal} {f : Refusal} → first_of xs ≡ done_option d → d ≡ Err f → first_of (xs ++ ys) ≡ some (refusal_number f)
   check_refused xs e p = first_some_lem xs (e ∙ ap done_option p)
 
 -- ---- what a refusal leaves

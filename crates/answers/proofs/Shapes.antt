@@ -1,8 +1,7 @@
 -- The shape of three images. Assumes nothing.
-use mathlib.Core.Path.{◌≡◌, sym, ap, ap₂, ◌∙◌}
+use mathlib.Core.Path.{◌≡◌}
 use mathlib.Core.Bool.{true, ◌&&◌}
-use Prim.Native.Nat.{ℕ, ◌+◌, ◌*◌, ◌/◌, ◌%◌, ◌≤◌, ◌<◌}
-use native.Mathlib.Nat.{mul-mod_left, mul-div_cancel, div-add-mod, mul_comm, add-zero}
+use Prim.Native.Nat.{ℕ, ◌*◌, ◌≤◌}
 use lib.Dec.{eqb, leb}
 use lib.ListN.{length}
 use borrow.Author.Tests.{eqb-true, leb-true}
@@ -10,18 +9,6 @@ use Rattle.block.proofs.Lists.{and_left, and_right}
 use Rattle.mode.specs.Sealing.{Triple}
 use Rattle.mode.specs.Scheme.{Place, local, tag, remote, on, wide}
 use Rattle.answers.specs.Rules.{shape, is_shape}
-
--- ---- by division
-
-module _ (n s l : ℕ) where
-  pub product_whole : l ≡ n * s → l % n ≡ 0
-  product_whole e = ap (λ (x : ℕ). x % n) (e ∙ mul_comm n s) ∙ mul-mod_left s n
-
-  pub product_quotient : 0 < n → l ≡ n * s → l / n ≡ s
-  product_quotient pos e = ap (λ (x : ℕ). x / n) (e ∙ mul_comm n s) ∙ mul-div_cancel s pos
-
-  pub quotient_product : l % n ≡ 0 → l / n ≡ s → l ≡ n * s
-  quotient_product m q = sym (div-add-mod l n) ∙ ap₂ (λ (x y : ℕ). n * x + y) q m ∙ add-zero (n * s)
 
 -- ---- what it says
 

@@ -2,3 +2,5 @@ pub mod Answers
 pub mod Rules
 pub mod Keys
 pub mod Passing
+pub mod ByteLists
+pub mod Lent

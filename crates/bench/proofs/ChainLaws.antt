@@ -1,20 +1,23 @@
--- The turn and the end of a chain that counts down. Assumes nothing.
-use mathlib.Core.Path.{◌≡◌, sym, ap₂}
-use Prim.Native.Nat.{ℕ, zero, suc, ◌+◌, ◌-◌, ◌*◌, ◌^◌, ◌<◌}
-use native.Mathlib.Omega.{arith}
+-- The steps of a chain. Assumes nothing.
+use mathlib.Core.Path.{◌≡◌, refl, sym, ap₂}
+use Prim.Native.Nat.{ℕ, zero, suc, ◌+◌, ◌*◌, ◌^◌, ◌<◌}
 use lib.Pow.{high, low}
 use lib.Bits.{bit_xor}
+use Rattle.std.proofs.Common.{add-one}
 use Rattle.bench.specs.Chain.{iterate, folded}
 
 module _ (f : ℕ → ℕ) where
-  pub turn : (k x y : ℕ) → 0 < k → y ≡ f x → iterate (k - 1) f y ≡ iterate k f x
+  pub none : (x : ℕ) → iterate 0 f x ≡ x
   unfolding iterate
-  turn zero x y h e = omega arith
-  turn (suc k) x y h e = let less : suc k - 1 ≡ k = omega arith in rw (less, e)
+  none x = refl
 
-  pub end : (k x : ℕ) → k ≡ 0 → iterate k f x ≡ x
+  last : (k x : ℕ) → iterate (suc k) f x ≡ f (iterate k f x)
   unfolding iterate
-  end k x h = rw h
+  last zero x = refl
+  last (suc k) x = last k (f x)
+
+  pub one_more : (k x : ℕ) → iterate (k + 1) f x ≡ f (iterate k f x)
+  one_more k x = rw add-one (last k x)
 
 pub folded_words : (h l : ℕ) → l < 2 ^ 64 → bit_xor h l ≡ folded (h * 2 ^ 64 + l)
 unfolding folded

@@ -1,5 +1,6 @@
 // What bench/bench.c and bench/against.c link as libbench.a. Each function calls that of the same name of the crate `bench`, and promises what
 // that one does, in the same words.
+// They stay apart and one line each: C calls a function by its name.
 #![tactic(auto)]
 
 ghost use Rattle.std.specs.Prelude.{◌≡◌, ◌+◌, ◌*◌, ◌^◌, ◌≤◌, length};

@@ -95,16 +95,7 @@ bits_only m k h g e f = ext_get_or 0 m k e (λ q l. digits_only 64 (get_or m q 0
         (subst (λ (a : ℕ). eqb (digit a (get_or m q 0)) 1 ≡ eqb (digit a (get_or k q 0)) 1) r
         (subst (λ (a : ℕ). eqb (digit ((q * 64 + j) % 64) (get_or m a 0)) 1 ≡ eqb (digit ((q * 64 + j) % 64) (get_or k a 0)) 1) d z))
 
--- ---- for the code
-
--- where d is the digit, and where x is the word with another digit
-pub bit-read : (i : ℕ) (m : List ℕ) {d : ℕ} → d ≡ digit (i % 64) (get_or m (i / 64) 0) → eqb d 1 ≡ bit i m
-unfolding bit
-bit-read i m e = ap (λ (x : ℕ). eqb x 1) e
-
-pub word_set : (i : ℕ) (m : List ℕ) (b : Bool) {x : ℕ} → x ≡ put_digit (i % 64) (num b) (get_or m (i / 64) 0) → set m (i / 64) x ≡ mark i b m
-unfolding mark
-word_set i m b e = ap (set m (i / 64)) e
+-- ---- all that is stated of them
 
 by_division : (i : ℕ) (m : List ℕ) → bit i m ≡ eqb (get_or m (i / 64) 0 / 2 ^ (i % 64) % 2) 1
 unfolding bit

@@ -1,5 +1,6 @@
 -- Laws of lists of bytes: their tests, ⊕, and the loops that compare, copy and add them. Assumes nothing.
-use Rattle.std.proofs.Common.{◌≡◌, ℕ, zero, suc, pred, ◌+◌, ◌<◌, ◌≤◌, Bool, true, false, ◌&&◌, eqb, List, [], ◌∷◌, ◌++◌, length, get_or, take, drop, set, replicate, sym, refl, ap, ◌∙◌, subst, ap₂, append-nil, suc-le-suc, zero-le, add-one, arith, lit<, drop_of_length-le, length-take-le, take_all, drop-cons, take-suc, eq-eqb, ne_eqb, eqb-true}
+use Rattle.std.proofs.Common.{◌≡◌, ℕ, zero, suc, pred, ◌+◌, ◌<◌, ◌≤◌, Bool, true, false, ◌&&◌, ◌==◌, nat_eq, eqb, List, [], ◌∷◌, ◌++◌, length, get_or, take, drop, set, replicate, sym, refl, ap, ◌∙◌, subst, ap₂, append-nil, suc-le-suc, zero-le, add-one, arith, lit<, drop_of_length-le, length-take-le, take_all, drop-cons, take-suc, eq-eqb, eqb-true, ext_get_or}
+use Rattle.std.specs.Cmp.Lexicographic.{pointwise}
 use lib.ListN.{length-replicate}
 use lib.Seq.{set_at, append_snoc}
 use lib.Bits.{bit_xor, xor_lt, xor_comm}
@@ -59,28 +60,13 @@ same_ne xs ys ne = go (same xs ys) refl
     go true e = absurd (ne (same_eq xs ys e))
     go false e = e
 
--- ---- the loop that compares
-
-pub same_turn : (a b : List ℕ) (i : ℕ) → i < length a → i < length b → get_or a i 0 ≡ get_or b i 0
-    → same (drop i a) (drop i b) ≡ same (drop (i + 1) a) (drop (i + 1) b)
+-- `==` of slices
+pub same_pointwise : (xs ys : List ℕ) → pointwise nat_eq xs ys ≡ same xs ys
 unfolding same
-same_turn a b i ha hb e =
-    ap₂ same (drop-cons a i 0 ha) (drop-cons b i 0 hb)
-    ∙ ap (λ (t : Bool). t && same (drop (suc i) a) (drop (suc i) b)) (eq-eqb (get_or a i 0) (get_or b i 0) e)
-    ∙ ap (λ (n : ℕ). same (drop n a) (drop n b)) (sym (add-one i))
-
-pub same_differ : (a b : List ℕ) (i : ℕ) → i < length a → i < length b → (get_or a i 0 ≡ get_or b i 0 → ⊥) → same (drop i a) (drop i b) ≡ false
-unfolding same
-same_differ a b i ha hb e =
-    ap₂ same (drop-cons a i 0 ha) (drop-cons b i 0 hb)
-    ∙ ap (λ (t : Bool). t && same (drop (suc i) a) (drop (suc i) b)) (ne_eqb (get_or a i 0) (get_or b i 0) e)
-
-pub same_end : (a b : List ℕ) (i : ℕ) → length a ≤ i → length b ≤ i → same (drop i a) (drop i b) ≡ true
-unfolding same
-same_end a b i ha hb = ap₂ same (drop_of_length-le a ha) (drop_of_length-le b hb)
-
-pub same_lengths : (a b : List ℕ) → (length a ≡ length b → ⊥) → same a b ≡ false
-same_lengths a b h = same_ne a b (λ e. h (ap length e))
+same_pointwise [] [] = refl
+same_pointwise [] (y ∷ ys) = refl
+same_pointwise (x ∷ xs) [] = refl
+same_pointwise (x ∷ xs) (y ∷ ys) = ap (λ (t : Bool). (x == y) && t) (same_pointwise xs ys)
 
 -- ---- the loop that fills a list from the front
 
@@ -111,6 +97,12 @@ get_or_xor [] (y ∷ ys) i e = absurd (omega arith)
 get_or_xor (x ∷ xs) [] i e = absurd (omega arith)
 get_or_xor (x ∷ xs) (y ∷ ys) zero e = refl
 get_or_xor (x ∷ xs) (y ∷ ys) (suc i) e = get_or_xor xs ys i (ap pred e)
+
+-- a list that has been filled with it
+pub xor_filled : (x y o : List ℕ) → length x ≡ length y → length o ≡ length x
+    → ((k : ℕ) → k < length x → get_or o k 0 ≡ bit_xor (get_or x k 0) (get_or y k 0)) → o ≡ xor_bytes x y
+xor_filled x y o e f g =
+    ext_get_or 0 o (xor_bytes x y) (f ∙ sym (length_xor x y e)) (λ k h. g k (omega arith) ∙ sym (get_or_xor x y k e))
 
 pub xor_bytes_comm : (x y : List ℕ) → xor_bytes x y ≡ xor_bytes y x
 xor_bytes_comm [] [] = refl

@@ -1,5 +1,5 @@
 -- Laws of numbers as bytes, the first the most significant. Assumes nothing.
-use Rattle.std.proofs.Common.{◌≡◌, ℕ, zero, suc, ◌+◌, ◌-◌, ◌*◌, ◌/◌, ◌%◌, ◌^◌, ◌<◌, ◌≤◌, ◌⊎◌, List, [], ◌∷◌, ◌++◌, length, get_or, take, drop, replicate, sym, refl, ap, ◌∙◌, subst, ap₂, inl, inr, append_assoc, append-nil, lt_of_lt_of_le, le_of_suc-le-suc, not-suc-le-zero, add-zero, add_assoc, mod-lt, mod-eq_of_lt, mul_assoc, suc-mul, mul_comm, div-lt_iff_lt-mul, add-mul, suc-add, eq-or-lt_of_le, pow-suc, div-add-mod', zero-add, mul-one, div-one, add-one, arith, lit<, length-append, length-drop, length-take-le, get_or-drop, take-suc, drop-drop, take_at, take-add, drop_at, shr-shr}
+use Rattle.std.proofs.Common.{◌≡◌, ℕ, zero, suc, ◌+◌, ◌-◌, ◌*◌, ◌/◌, ◌%◌, ◌^◌, ◌<◌, ◌≤◌, ◌⊎◌, List, [], ◌∷◌, ◌++◌, length, get_or, take, drop, replicate, sym, refl, ap, ◌∙◌, subst, ap₂, inl, inr, append_assoc, append-nil, lt_of_lt_of_le, le_of_suc-le-suc, not-suc-le-zero, add-zero, add_assoc, mod-lt, mod-eq_of_lt, mul_assoc, suc-mul, mul_comm, div-lt_iff_lt-mul, add-mul, suc-add, eq-or-lt_of_le, pow-suc, div-add-mod', zero-add, mul-one, div-one, add-one, arith, lit<, length-append, length-drop, length-take-le, drop-drop, take_at, take-add, drop_at, shr-shr}
 use native.Mathlib.Nat.{div-div-eq-div-mul, mul-add-div_right, mul-add-mod_self_right, one-le-pow, pow-le-pow_right}
 use lib.ListN.{get_or-append}
 use lib.Pow.{high}
@@ -30,16 +30,6 @@ number_scale s (x ∷ xs) =
 pub number_snoc : (s : ℕ) (xs : List ℕ) (x : ℕ) → number s (xs ++ (x ∷ [])) ≡ number s xs * 256 + x
 unfolding number
 number_snoc s xs x = number_append s xs (x ∷ [])
-
--- one byte more of a list from `at` on
-pub bytes_next : (b : List ℕ) (at i : ℕ) → at + i < length b
-    → from_bytes (take (i + 1) (drop at b)) ≡ from_bytes (take i (drop at b)) * 256 + get_or b (at + i) 0
-unfolding from_bytes
-bytes_next b at i h =
-    ap (λ (k : ℕ). number 0 (take k (drop at b))) (add-one i)
-    ∙ ap (number 0) (take-suc (drop at b) i 0 (simp length-drop (omega arith)))
-    ∙ number_snoc 0 (take i (drop at b)) (get_or (drop at b) i 0)
-    ∙ ap (λ (x : ℕ). number 0 (take i (drop at b)) * 256 + x) (get_or-drop at b i 0)
 
 -- two runs of bytes one after the other
 pub bytes_two : (b : List ℕ) (at m n : ℕ) → at + (m + n) ≤ length b

@@ -104,12 +104,12 @@ join_words h l qh ql hh hl hq =
 -- ---- a word after i steps
 
 -- with the multiples t: s is the product by the bits of w that have been taken, and u has the others
-pub record Chain (t : List ℕ) (w i : ℕ) (s : Block) (u : ℕ) : Type 0 where
+pub record Chain (t : List Block) (w i : ℕ) (s : Block) (u : ℕ) : Type 0 where
   pub word : w < 2 ^ 64
   pub so_far : (b : ℕ) → b < 2 ^ 128 → Multiples 16 b t → value s ≡ mul (w * 2 ^ (4 * i) / 2 ^ 64) b
   pub rest : u ≡ w * 2 ^ (4 * i) % 2 ^ 64
 
-pub chain_start : (t : List ℕ) (w : ℕ) → w < 2 ^ 64 → Chain t w 0 (record { hi = 0; lo = 0 }) w
+pub chain_start : (t : List Block) (w : ℕ) → w < 2 ^ 64 → Chain t w 0 (record { hi = 0; lo = 0 }) w
 unfolding value
 chain_start t w h = record {
   word = h;
@@ -124,7 +124,7 @@ next_taken n = omega arith
 four_more : (i : ℕ) → 4 * i + 4 ≡ 4 * (i + 1)
 four_more i = omega arith
 
-pub chain_next : (t : List ℕ) (w i : ℕ) (s : Block) (u : ℕ) (m r : Block) → i < 16 → Chain t w i s u
+pub chain_next : (t : List Block) (w i : ℕ) (s : Block) (u : ℕ) (m r : Block) → i < 16 → Chain t w i s u
     → ((b : ℕ) → Multiples 16 b t → value m ≡ mul (u / 2 ^ 60) b) → value r ≡ bit_xor (mul 16 (value s)) (value m)
     → Chain t w (i + 1) r (u * 16 % 2 ^ 64)
 chain_next t w i s u m r hi c em er = record {
@@ -143,7 +143,7 @@ chain_next t w i s u m r hi c em er = record {
 }
 
 -- after sixteen
-pub chain_all : (t : List ℕ) (w i : ℕ) (s : Block) (u b : ℕ) → i ≡ 16 → b < 2 ^ 128 → Multiples 16 b t → Chain t w i s u → value s ≡ mul w b
+pub chain_all : (t : List Block) (w i : ℕ) (s : Block) (u b : ℕ) → i ≡ 16 → b < 2 ^ 128 → Multiples 16 b t → Chain t w i s u → value s ≡ mul w b
 chain_all t w i s u b e hb all c =
     c.so_far b hb all ∙ ap (λ (k : ℕ). mul (w * 2 ^ (4 * k) / 2 ^ 64) b) e ∙ ap (λ (x : ℕ). mul x b) (shl-shr w 64)
 

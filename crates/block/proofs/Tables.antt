@@ -11,30 +11,24 @@ use Rattle.block.proofs.Product.{multiple_from_half}
 
 -- ---- the multiples
 
+abbrev nothing : Block
+nothing = record { hi = 0; lo = 0 }
+
 -- one more
-grown : (t : List ℕ) (n b : ℕ) (m : Block) → n < 16 → length t ≡ 32 → Multiples n b t → value m ≡ mul n b
-    → Multiples (n + 1) b (set (set t n m.hi) (n + 16) m.lo)
-unfolding Multiples multiple_at value
+grown : (t : List Block) (n b : ℕ) (m : Block) → n < 16 → length t ≡ 16 → Multiples n b t → value m ≡ mul n b → Multiples (n + 1) b (set t n m)
+unfolding Multiples multiple_at
 grown t n b m hn len all e j h = pick (ℕ_discrete j n)
   where
-    pick : Dec (j ≡ n) → multiple_at (set (set t n m.hi) (n + 16) m.lo) j ≡ mul j b
+    pick : Dec (j ≡ n) → multiple_at (set t n m) j ≡ mul j b
     pick (yes y) =
-        subst (λ (k : ℕ). multiple_at (set (set t n m.hi) (n + 16) m.lo) k ≡ mul k b) (sym y)
-        (ap₂ (λ (x y : ℕ). x * 2 ^ 64 + y)
-        (get_or-set_other (set t n m.hi) (n + 16) n m.lo 0 (λ p. omega arith) ∙ get_or-set_same t n m.hi 0 (omega arith))
-        (get_or-set_same (set t n m.hi) (n + 16) m.lo 0 (simp length-set (omega arith)))
-        ∙ e)
-    pick (no y) =
-        ap₂ (λ (x y : ℕ). x * 2 ^ 64 + y)
-        (get_or-set_other (set t n m.hi) (n + 16) j m.lo 0 (λ p. omega arith) ∙ get_or-set_other t n j m.hi 0 y)
-        (get_or-set_other (set t n m.hi) (n + 16) (j + 16) m.lo 0 (λ p. y (omega arith)) ∙ get_or-set_other t n (j + 16) m.hi 0 (λ p. omega arith))
-        ∙ all j (omega (arith, y))
+        subst (λ (k : ℕ). multiple_at (set t n m) k ≡ mul k b) (sym y)
+        (ap value (get_or-set_same t n m nothing (omega arith)) ∙ e)
+    pick (no y) = ap value (get_or-set_other t n j m nothing y) ∙ all j (omega (arith, y))
 
 -- two more, each from its half
-pub two_more : (t : List ℕ) (i b : ℕ) (even odd : Block) → 1 ≤ i → i < 8 → b < 2 ^ 128 → length t ≡ 32 → Multiples (2 * i) b t
+pub two_more : (t : List Block) (i b : ℕ) (even odd : Block) → 1 ≤ i → i < 8 → b < 2 ^ 128 → length t ≡ 16 → Multiples (2 * i) b t
     → value even ≡ double (multiple_at t i) → value odd ≡ bit_xor (value even) b
-    → Multiples (2 * (i + 1)) b
-    (set (set (set (set t (2 * i) even.hi) (2 * i + 16) even.lo) (2 * i + 1) odd.hi) (2 * i + 1 + 16) odd.lo)
+    → Multiples (2 * (i + 1)) b (set (set t (2 * i) even) (2 * i + 1) odd)
 unfolding Multiples
 two_more t i b even odd p q hb len all e o =
     let i_lt : i < 2 ^ 127 = lt_of_lt_of_le q (lit≤ tt) in
@@ -45,21 +39,17 @@ two_more t i b even odd p q hb len all e o =
     let odd_is : value odd ≡ mul (2 * i + 1) b =
     o ∙ ap₂ bit_xor half (sym (mul_one_l b)) ∙ multiple_from_half i 1 i_lt (lit< tt) hb in
     let done : 2 * i + 1 + 1 ≡ 2 * (i + 1) = omega arith in
-    subst
-    (λ (n : ℕ). Multiples n b
-    (set (set (set (set t (2 * i) even.hi) (2 * i + 16) even.lo) (2 * i + 1) odd.hi) (2 * i + 1 + 16) odd.lo))
-    done
-    (grown (set (set t (2 * i) even.hi) (2 * i + 16) even.lo) (2 * i + 1) b odd (omega arith) (simp length-set len)
-    (grown t (2 * i) b even (omega arith) len all even_is) odd_is)
+    subst (λ (n : ℕ). Multiples n b (set (set t (2 * i) even) (2 * i + 1) odd)) done
+    (grown (set t (2 * i) even) (2 * i + 1) b odd (omega arith) (simp length-set len) (grown t (2 * i) b even (omega arith) len all even_is) odd_is)
 
 -- the first two
-no_multiple : (b : ℕ) → Multiples 1 b (replicate 32 0)
-unfolding Multiples multiple_at
+no_multiple : (b : ℕ) → Multiples 1 b (replicate 16 nothing)
+unfolding Multiples multiple_at value
 no_multiple b zero h = sym (mul-zero_l b)
 no_multiple b (suc j) h = absurd (omega arith)
 
-pub two_multiples : (b : Block) → Multiples 2 (value b) (set (set (replicate 32 0) 1 b.hi) 17 b.lo)
-two_multiples b = grown (replicate 32 0) 1 (value b) b (lit< tt) refl (no_multiple (value b)) (sym (mul_one_l (value b)))
+pub two_multiples : (b : Block) → Multiples 2 (value b) (set (replicate 16 nothing) 1 b)
+two_multiples b = grown (replicate 16 nothing) 1 (value b) b (lit< tt) refl (no_multiple (value b)) (sym (mul_one_l (value b)))
 
 -- ---- the reductions
 

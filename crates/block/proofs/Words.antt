@@ -1,10 +1,12 @@
 -- Blocks as two words of 64 bits. Assumes nothing.
-use Rattle.std.proofs.Common.{◌≡◌, ℕ, zero, suc, ◌+◌, ◌-◌, ◌*◌, ◌/◌, ◌%◌, ◌^◌, ◌<◌, ◌≤◌, Bool, true, false, eqb, sym, refl, ap, ◌∙◌, subst, ap₂, lt_of_le_of_lt, add-zero, mod-lt, mod-eq_of_lt, mul_assoc, add-mul, div-add-mod', zero-add, mul_right_comm, arith, lit<, lit≤, pow_pos, pow-add, shr-shr, shr_lt, eq-eqb, ne_eqb, eqb-true}
+use Rattle.std.proofs.Common.{◌≡◌, ℕ, zero, suc, ◌+◌, ◌-◌, ◌*◌, ◌/◌, ◌%◌, ◌^◌, ◌<◌, ◌≤◌, Bool, true, false, ◌&&◌, eqb, sym, refl, ap, ◌∙◌, subst, ap₂, lt_of_le_of_lt, add-zero, mod-lt, mod-eq_of_lt, mul_assoc, add-mul, div-add-mod', zero-add, mul_right_comm, arith, lit<, lit≤, pow_pos, pow-add, shr-shr, shr_lt, eq-eqb, ne_eqb, eqb-true}
 use native.Mathlib.Nat.{mul-add-div_right, mul-add-mod_self_right}
 use lib.Pow.{high, low, mod-pow-add, shl-shr}
 use lib.Bits.{bit_xor, bit_or, bit_and, xor_block, xor_zero_r, or_shifted, or_add_and, or_zero_l, and_comm, and_mask, and_le_l, and_le_r}
 use borrow.Author.Tests.{eqb-false}
+use Rattle.block.specs.declared.Block.{Block}
 use Rattle.block.specs.Field.{times, double}
+use Rattle.block.specs.Value.{value}
 
 -- ---- a bit spread over a word
 
@@ -105,17 +107,31 @@ module _ (h l : ℕ) (hh : h < 2 ^ 64) (hl : l < 2 ^ 64) where
       left_words 1 h l (lit≤ tt) hl (bit_and m 0x87) (lt_of_le_of_lt (and_le_r m 0x87) (lit< tt))
       ∙ ap (bit_xor ((h * 2 ^ 64 + l) * 2 % 2 ^ 128)) (reduction e)
 
--- ---- equal blocks have equal words
+-- ---- the sum
 
-pub words_equal : (h k l m : ℕ) → h ≡ k → eqb l m ≡ eqb (h * 2 ^ 64 + l) (k * 2 ^ 64 + m)
+pub xor_words : (h k l m : ℕ) → l < 2 ^ 64 → m < 2 ^ 64 → bit_xor h k * 2 ^ 64 + bit_xor l m ≡ bit_xor (h * 2 ^ 64 + l) (k * 2 ^ 64 + m)
+xor_words h k l m hl hm = sym (xor_block 64 h k l m hl hm)
+
+-- ---- blocks are equal exactly if their words are
+
+words_equal : (h k l m : ℕ) → h ≡ k → eqb l m ≡ eqb (h * 2 ^ 64 + l) (k * 2 ^ 64 + m)
 words_equal h k l m e = go (eqb l m) refl
   where
     go : (t : Bool) → eqb l m ≡ t → eqb l m ≡ eqb (h * 2 ^ 64 + l) (k * 2 ^ 64 + m)
     go true p = let q = eqb-true l m p in p ∙ sym (eq-eqb (h * 2 ^ 64 + l) (k * 2 ^ 64 + m) (omega arith))
     go false p = p ∙ sym (ne_eqb (h * 2 ^ 64 + l) (k * 2 ^ 64 + m) (λ q. eqb-false l m p (omega arith)))
 
-pub words_differ : (h k l m : ℕ) → l < 2 ^ 64 → m < 2 ^ 64 → (h ≡ k → ⊥) → false ≡ eqb (h * 2 ^ 64 + l) (k * 2 ^ 64 + m)
+words_differ : (h k l m : ℕ) → l < 2 ^ 64 → m < 2 ^ 64 → (h ≡ k → ⊥) → false ≡ eqb (h * 2 ^ 64 + l) (k * 2 ^ 64 + m)
 words_differ h k l m p q n = sym (ne_eqb (h * 2 ^ 64 + l) (k * 2 ^ 64 + m) (λ e. n (omega arith)))
+
+-- what `==` of blocks tells
+pub equal_blocks : (a b : Block) → a.lo < 2 ^ 64 → b.lo < 2 ^ 64 → (eqb a.hi b.hi && eqb a.lo b.lo) ≡ eqb (value a) (value b)
+unfolding value
+equal_blocks a b p q = go (eqb a.hi b.hi) refl
+  where
+    go : (t : Bool) → eqb a.hi b.hi ≡ t → (t && eqb a.lo b.lo) ≡ eqb (a.hi * 2 ^ 64 + a.lo) (b.hi * 2 ^ 64 + b.lo)
+    go true e = words_equal a.hi b.hi a.lo b.lo (eqb-true a.hi b.hi e)
+    go false e = words_differ a.hi b.hi a.lo b.lo p q (eqb-false a.hi b.hi e)
 
 -- ---- a block is zero exactly if its words are, which their or tells
 

@@ -1,13 +1,15 @@
 -- The two tables of a product that takes four bits at a step. Assumes nothing: these are definitions.
-use Rattle.std.specs.Prelude.{◌≡◌, ℕ, ◌+◌, ◌*◌, ◌^◌, ◌<◌, List, slice_index}
+use Rattle.std.specs.Prelude.{◌≡◌, ℕ, ◌<◌, List, get_or, slice_index}
+use Rattle.block.specs.declared.Block.{Block}
 use Rattle.block.specs.Field.{mul}
+use Rattle.block.specs.Value.{value}
 
--- the element at j of a table of 32 words: its high word at j, its low word at 16 + j
-unfoldable pub multiple_at : List ℕ → ℕ → ℕ
-multiple_at t j = slice_index t j * 2 ^ 64 + slice_index t (j + 16)
+-- the element at j of a table of sixteen
+unfoldable pub multiple_at : List Block → ℕ → ℕ
+multiple_at t j = value (get_or t j (record { hi = 0; lo = 0 }))
 
 -- the element at j is j · b, for each j below n (used with n at most 16)
-unfoldable pub Multiples : ℕ → ℕ → List ℕ → Type 0
+unfoldable pub Multiples : ℕ → ℕ → List Block → Type 0
 unfolding multiple_at
 Multiples n b t = (j : ℕ) → j < n → multiple_at t j ≡ mul j b
 

@@ -1,5 +1,5 @@
 -- What a read, a turn and a row of turns do to the bytes that the reader has left and to those that the writer holds.
-use Rattle.std.proofs.Common.{◌≡◌, ℕ, zero, suc, ◌+◌, ◌-◌, ◌^◌, ◌<◌, List, [], ◌∷◌, ◌++◌, Bool, true, false, not, None, Some, refl, sym, ap, ◌∙◌, subst, append_assoc, append-nil, length, take, drop, arith, take-add, Result, Ok, Err, OnErr}
+use Rattle.std.proofs.Common.{◌≡◌, ℕ, zero, suc, ◌+◌, ◌-◌, ◌^◌, ◌<◌, List, [], ◌∷◌, ◌++◌, true, false, None, Some, refl, sym, ap, ◌∙◌, subst, append_assoc, append-nil, length, take, drop, arith, take-add, Result, Ok, Err, OnErr}
 use lib.IntN.{ℤ, pos, negsuc}
 use lib.ListN.{replicate, take-append-drop}
 use lib.Seq.{take_at}
@@ -18,7 +18,7 @@ use Rattle.input.specs.declared.Next.TheVariants as N
 use Rattle.input.proofs.Feeding.{fed_append, print_ended_is, print_input_is}
 use Rattle.frames.specs.declared.Failure.{Failure}
 use Rattle.frames.specs.declared.Failure.TheVariants as F
-use Rattle.frames.specs.Answered.{AnswersAll, AnswersEnded, AnswersPart, AnswersTurns, Fails, Gives, Turns, WritesPart}
+use Rattle.frames.specs.Answered.{AnswersAll, AnswersEnded, AnswersPart, AnswersTurns, AnswersUntil, Fails, Gives, IsWrite, Turns, WritesPart}
 
 -- ---- a read
 
@@ -93,15 +93,19 @@ turn_fails held failed left left' written written' e gives put = (gives, keeps_n
 turn_fails held ended left left' written written' e gives put = absurd (let z : ◌≡◌ {A = ℕ} 0 1 = cc in omega arith)
 turn_fails held (gave b) left left' written written' e gives put = absurd (let z : ◌≡◌ {A = ℕ} 0 1 = cc in omega arith)
 
-pub more_false : (more : Bool) (held held' : List ℕ) (left left' written written' : Option (List ℕ)) → Turns held held' more left left' written written' → not more ≡ true
-    → Turns held held' false left left' written written'
-more_false false held held' left left' written written' t e = t
-more_false true held held' left left' written written' t e = absurd (let z : ◌≡◌ {A = ℕ} 0 1 = cc in omega arith)
+-- one that ends holds nothing
+pub turn_ends : (held : List ℕ) (r : Read) (left left' written written' : Option (List ℕ)) → N.Ended ≡ (turned held r).next → Gives left left' r → Appends written written' (turned held r).printed
+    → Turns held [] false left left' written written'
+unfolding turned
+turn_ends held failed left left' written written' e gives put = absurd (let z : ◌≡◌ {A = ℕ} 0 1 = cc in omega arith)
+turn_ends held ended left left' written written' e gives put = (ended, gives, refl, refl, put)
+turn_ends held (gave b) left left' written written' e gives put = absurd (let z : ◌≡◌ {A = ℕ} 0 1 = cc in omega arith)
 
-pub more_true : (more : Bool) (held held' : List ℕ) (left left' written written' : Option (List ℕ)) → Turns held held' more left left' written written' → not more ≡ false
-    → Turns held held' true left left' written written'
-more_true true held held' left left' written written' t e = t
-more_true false held held' left left' written written' t e = absurd (let z : ◌≡◌ {A = ℕ} 0 1 = cc in omega arith)
+pub write_fails : (f : Failure) → IsWrite f → (held : List ℕ) (left left' written written' : Option (List ℕ)) (r : Read) → Gives left left' r
+    → WritesPart written written' (turned held r).printed → Fails f held left left' written written'
+write_fails F.Read e held left left' written written' r gives part = absurd e
+write_fails (F.Write kind) e held left left' written written' r gives part = (r, gives, part)
+write_fails (F.TooManyReads turns) e held left left' written written' r gives part = absurd e
 
 -- ---- a row of turns that read on
 
@@ -187,4 +191,10 @@ module _ {left₀ left written₀ written : Option (List ℕ)} {held : List ℕ}
       let f = fed [] (p.input ++ b) in
       part_is left' written' b (fed held b).printed (finished f.rest) n gives put
       (print_input_is (p.input ++ b) ∙ ap (λ (g : Fed). g.printed ++ finished f.rest) (more_is b))
-  progress_fails left' written' F.TooManyReads x = absurd x
+  progress_fails left' written' (F.TooManyReads turns) x = absurd x
+
+-- too many turns are no failure of one
+pub until_turns : (f : Failure) (left left' written written' : Option (List ℕ)) → AnswersTurns f left left' written written' → AnswersUntil f left left' written written'
+until_turns F.Read left left' written written' a = a
+until_turns (F.Write kind) left left' written written' a = a
+until_turns (F.TooManyReads turns) left left' written written' a = absurd a

@@ -1,6 +1,6 @@
 -- What the program has read and written, by the bytes that its reader has left and those that its writer holds, where these are known. These
 -- are definitions.
-use Rattle.std.specs.Prelude.{◌≡◌, Bool, true, false, List, [], ℕ, take, IfSome, codes}
+use Rattle.std.specs.Prelude.{◌≡◌, Bool, true, false, Some, None, List, [], ℕ, ◌≤◌, take, IfSome, codes}
 use Rattle.std.specs.declared.option.Option.{Option}
 use Rattle.std.specs.Io.KnownBytes.{Appends, Consumes, IsAtEnd, Keeps}
 use Rattle.input.specs.Lines.{print_input, print_ended}
@@ -28,18 +28,13 @@ AnswersPart left left' written written' = (input : List ℕ) × (n : ℕ) × Con
 abbrev pub AnswersTurns : Failure → Option (List ℕ) → Option (List ℕ) → Option (List ℕ) → Option (List ℕ) → Type 0
 AnswersTurns F.Read left left' written written' = AnswersEnded left left' written written'
 AnswersTurns (F.Write kind) left left' written written' = AnswersPart left left' written written'
-AnswersTurns F.TooManyReads left left' written written' = ⊥
+AnswersTurns (F.TooManyReads turns) left left' written written' = ⊥
 
--- what a run that fails has written
+-- what a run that fails has written: only 2^64 − 1 turns are too many
 abbrev pub AnswersUntil : Failure → Option (List ℕ) → Option (List ℕ) → Option (List ℕ) → Option (List ℕ) → Type 0
 AnswersUntil F.Read left left' written written' = AnswersTurns F.Read left left' written written'
 AnswersUntil (F.Write kind) left left' written written' = AnswersTurns (F.Write kind) left left' written written'
-AnswersUntil F.TooManyReads left left' written written' = AnswersEnded left left' written written'
-
--- what a run that does not fail has written: `more` where it would read on
-abbrev pub AnswersSoFar : Bool → Option (List ℕ) → Option (List ℕ) → Option (List ℕ) → Option (List ℕ) → Type 0
-AnswersSoFar true left left' written written' = AnswersEnded left left' written written'
-AnswersSoFar false left left' written written' = AnswersAll left left' written written'
+AnswersUntil (F.TooManyReads turns) left left' written written' = (18446744073709551615 ≤ turns) × AnswersEnded left left' written written'
 
 -- ---- a turn
 
@@ -62,15 +57,26 @@ abbrev pub Turns : List ℕ → List ℕ → Bool → Option (List ℕ) → Opti
 Turns held held' more left left' written written' =
     (r : Read) × Gives left left' r × (held' ≡ (turned held r).rest) × (next_of more ≡ (turned held r).next) × Appends written written' (turned held r).printed
 
+-- the same, by what it answers: how many bytes of the line store are held, and none at the end
+abbrev pub TurnsTo : Option ℕ → List ℕ → List ℕ → Option (List ℕ) → Option (List ℕ) → Option (List ℕ) → Option (List ℕ) → Type 0
+TurnsTo (Some used) held line left left' written written' = Turns held (take used line) true left left' written written'
+TurnsTo None held line left left' written written' = Turns held [] false left left' written written'
+
 -- a turn that fails
 abbrev pub Fails : Failure → List ℕ → Option (List ℕ) → Option (List ℕ) → Option (List ℕ) → Option (List ℕ) → Type 0
 Fails F.Read held left left' written written' = Keeps left left' × Keeps written written'
 Fails (F.Write kind) held left left' written written' = (r : Read) × Gives left left' r × WritesPart written written' (turned held r).printed
-Fails F.TooManyReads held left left' written written' = ⊥
+Fails (F.TooManyReads turns) held left left' written written' = ⊥
+
+-- writing failed
+abbrev pub IsWrite : Failure → Type 0
+IsWrite F.Read = ⊥
+IsWrite (F.Write kind) = Unit {0}
+IsWrite (F.TooManyReads turns) = ⊥
 
 -- ---- the messages
 
 abbrev pub text_of : Failure → List ℕ
 text_of F.Read = codes "cannot read"
 text_of (F.Write kind) = codes "cannot write"
-text_of F.TooManyReads = codes "stopped after too many reads"
+text_of (F.TooManyReads turns) = codes "stopped after too many reads"

@@ -1,13 +1,14 @@
-// Answers frames: reads standard input a buffer at a time and prints one line for each of its lines. Memory is fixed, whatever the input is.
+// Answers frames: reads standard input a buffer at a time and prints one line for each of its lines. Memory is fixed, whatever the input
+// is.
 // What a turn prints and does next is `input::turn`; here is only the reading and the writing.
 #![tactic(auto)]
 
-ghost use Rattle.std.specs.Prelude.{◌≡◌, true, Some, ◌≤◌, length, take, IfOk, OnOk, OnErr, IfErr};
+ghost use Rattle.std.specs.Prelude.{Some, ◌≤◌, length, take, IfOk, OnOk, OnErr, IfErr};
 ghost use Rattle.std.specs.Io.KnownBytes.{Appends};
 ghost use Rattle.input.specs.Turn.{read_of};
-ghost use Rattle.frames.specs.Answered.{AnswersAll, AnswersSoFar, AnswersTurns, AnswersUntil, Fails, Gives, Turns, WritesPart, text_of};
+ghost use Rattle.frames.specs.Answered.{AnswersAll, AnswersUntil, Fails, Gives, IsWrite, TurnsTo, WritesPart, text_of};
 
-use input::Next;
+use input::{BUFFER, HELD, Next, PRINTED};
 use std::io::{ErrorKind, Read, Write};
 use std::process::ExitCode;
 use std::{fmt, io};
@@ -15,12 +16,21 @@ use std::{fmt, io};
 // Nothing says that an input ends, and a proved loop has to. No run comes to this many turns.
 const MOST_TURNS: u64 = u64::MAX;
 
-// Why the program stops before the end of its input.
+// Why the program stops before the end of its input, at last after so many turns.
 #[derive(Clone, Copy, Debug, PartialEq, Eq)]
 enum Failure {
     Read,
     Write(ErrorKind),
-    TooManyReads,
+    TooManyReads(u64),
+}
+
+// Only a write gives an error: that a read fails is told by `read` and by the turn.
+impl From<io::Error> for Failure {
+    ghost from_gives = { λ error failure. IsWrite failure };
+
+    fn from(error: io::Error) -> Self {
+        Failure::Write(error.kind())
+    }
 }
 
 impl fmt::Display for Failure {
@@ -30,45 +40,17 @@ impl fmt::Display for Failure {
         match self {
             Failure::Read => write!(f, "cannot read"),
             Failure::Write(_) => write!(f, "cannot write"),
-            Failure::TooManyReads => write!(f, "stopped after too many reads"),
+            Failure::TooManyReads(_) => write!(f, "stopped after too many reads"),
         }
     }
 }
 
-// What a turn leaves: how many bytes of a line that has not ended are held, and whether the program reads on.
-#[derive(Clone, Copy)]
-struct State {
-    used: usize,
-    more: bool,
-}
-
-// How the turns ended: whether the program would read on, and how many there were.
-#[derive(Clone, Copy)]
-struct Stop {
-    more: bool,
-    turns: u64,
-}
-
-// Room for what a read gives.
-fn buffer_room() -> [u8; 65536] {
-    [0; 65536]
-}
-
-// Room for as much of a line as is ever held.
-fn line_room() -> [u8; 16499] {
-    [0; 16499]
-}
-
-// Room for what a buffer prints: for each of its 65,536 bytes at most three, and for each byte held before it one.
-fn out_room() -> [u8; 213107] {
-    [0; 213107]
-}
-
 // How many bytes a read gave, and −1 where it failed, as `input::turn` takes it.
-fn read<R: Read>(reader: &mut R, buffer: &mut [u8; 65536]) -> isize
+fn read<R: Read>(reader: &mut R, buffer: &mut [u8; BUFFER]) -> isize
     ensures { Gives (R.remaining reader.old) (R.remaining reader.new) (read_of result buffer.new) }
 {
     match reader.read(buffer) {
+        // `as`, since std has no conversion to isize that cannot fail; a read gives at most the length of its buffer.
         Ok(n) => n as isize,
         Err(_) => -1,
     }
@@ -90,7 +72,7 @@ fn write_all<W: Write>(writer: &mut W, text: &[u8]) -> io::Result<()>
     Ok(())
 }
 
-// Prints the first n bytes of a text, at once: who sent a line may wait for its answer.
+// Prints the first n bytes of a text, at once: who sent a line may wait for its answer. They are told by their number, as a turn tells them.
 fn print<W: Write>(writer: &mut W, text: &[u8], n: usize) -> io::Result<()>
     requires { n ≤ length text.now }
     ensures all { OnOk result (Appends (W.contents writer.old) (W.contents writer.new) (take n text.now)) }
@@ -100,36 +82,26 @@ fn print<W: Write>(writer: &mut W, text: &[u8], n: usize) -> io::Result<()>
     writer.flush()
 }
 
-// One read, the turn that it gives, and one write.
+// One read, the turn that it gives, and one write: how many bytes of a line are held then, and none at the end of the input.
 fn step<R: Read, W: Write>(
     reader: &mut R,
     writer: &mut W,
-    buffer: &mut [u8; 65536],
-    line: &mut [u8; 16499],
+    buffer: &mut [u8; BUFFER],
+    line: &mut [u8; HELD],
     used: usize,
-    out: &mut [u8; 213107],
-) -> Result<State, Failure>
-    ensures ok { IfOk result (λ state. Turns (take used line.old) (take state.used line.new) state.more
+    out: &mut [u8; PRINTED],
+) -> Result<Option<usize>, Failure>
+    ensures ok { IfOk result (λ held. TurnsTo held (take used line.old) line.new
         (R.remaining reader.old) (R.remaining reader.new) (W.contents writer.old) (W.contents writer.new)) }
     ensures err { IfErr result (λ failure. Fails failure (take used line.old)
         (R.remaining reader.old) (R.remaining reader.new) (W.contents writer.old) (W.contents writer.new)) }
 {
     let got = read(reader, buffer);
     let turn = input::turn(got, buffer, line, used, out);
-    let held = turn.used;
-    let next = turn.next;
-    if let Err(e) = print(writer, out, turn.printed) {
-        return Err(Failure::Write(e.kind()));
-    }
-    match next {
-        Next::ReadOn => Ok(State {
-            used: held,
-            more: true,
-        }),
-        Next::Ended => Ok(State {
-            used: held,
-            more: false,
-        }),
+    print(writer, out, turn.printed)?;
+    match turn.next {
+        Next::ReadOn => Ok(Some(turn.used)),
+        Next::Ended => Ok(None),
         Next::Failed => Err(Failure::Read),
     }
 }
@@ -138,27 +110,25 @@ fn step<R: Read, W: Write>(
 fn run<R: Read, W: Write>(
     reader: &mut R,
     writer: &mut W,
-    buffer: &mut [u8; 65536],
-    line: &mut [u8; 16499],
-    out: &mut [u8; 213107],
-) -> Result<Stop, Failure>
-    ensures most { IfOk result (λ stop. stop.more ≡ true → 18446744073709551615 ≤ stop.turns) }
-    ensures ok { IfOk result (λ stop. AnswersSoFar stop.more
+    buffer: &mut [u8; BUFFER],
+    line: &mut [u8; HELD],
+    out: &mut [u8; PRINTED],
+) -> Result<(), Failure>
+    ensures ok { OnOk result (AnswersAll
         (R.remaining reader.old) (R.remaining reader.new) (W.contents writer.old) (W.contents writer.new)) }
-    ensures err { IfErr result (λ failure. AnswersTurns failure
+    ensures err { IfErr result (λ failure. AnswersUntil failure
         (R.remaining reader.old) (R.remaining reader.new) (W.contents writer.old) (W.contents writer.new)) }
 {
-    let mut used: usize = 0;
+    let mut used = 0;
     let mut turns: u64 = 0;
-    while turns < MOST_TURNS {
-        let t = step(reader, writer, buffer, line, used, out)?;
-        turns += 1;
-        if !t.more {
-            return Ok(Stop { more: false, turns });
-        }
-        used = t.used;
+    for turn in 0..MOST_TURNS {
+        let Some(held) = step(reader, writer, buffer, line, used, out)? else {
+            return Ok(());
+        };
+        used = held;
+        turns = turn + 1;
     }
-    Ok(Stop { more: true, turns })
+    Err(Failure::TooManyReads(turns))
 }
 
 // Answers all of a reader's lines.
@@ -168,14 +138,13 @@ fn answer<R: Read, W: Write>(reader: &mut R, writer: &mut W) -> Result<(), Failu
     ensures err { IfErr result (λ failure. AnswersUntil failure
         (R.remaining reader.old) (R.remaining reader.new) (W.contents writer.old) (W.contents writer.new)) }
 {
-    let mut buffer = buffer_room();
-    let mut line = line_room();
-    let mut out = out_room();
-    let stop = run(reader, writer, &mut buffer, &mut line, &mut out)?;
-    if stop.more {
-        return Err(Failure::TooManyReads);
-    }
-    Ok(())
+    run(
+        reader,
+        writer,
+        &mut [0; BUFFER],
+        &mut [0; HELD],
+        &mut [0; PRINTED],
+    )
 }
 
 fn main(rt: HostRuntime) -> ExitCode {

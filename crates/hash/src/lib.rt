@@ -8,93 +8,93 @@ ghost use Rattle.block.specs.Field.{mul, power};
 ghost use Rattle.block.specs.Value.{value};
 ghost use Rattle.hash.specs.Brw.{log};
 ghost use Rattle.hash.specs.Brw as B;
-ghost use Rattle.hash.specs.Powers.{key_of, Powers};
+ghost use Rattle.hash.specs.Powers.{key_of, Powers, Powers-prop};
 
 use block::Block;
 
-// The powers h^(2^i), i from 0 to 8: worked out once for a key and lent to every hash.
-pub fn powers(h: Block) -> [u64; 18]
-    ensures { (key_of result ≡ value h) × Powers result }
-{
-    let mut p = [0u64; 18];
-    p[0] = h.hi;
-    p[1] = h.lo;
-    let mut v = h;
-    let mut i: usize = 0;
-    while i < 8 {
-        v = block::square(v);
-        i += 1;
-        p[2 * i] = v.hi;
-        p[2 * i + 1] = v.lo;
-    }
-    p
+// The powers h^(2^i), i from 0 to 8, each as two words, which is how `Powers` has them: worked out once for a key and lent to every hash.
+// It holds a key, so it is neither printed nor compared.
+#[derive(Clone, Copy)]
+pub struct KeyPowers {
+    pub words: [u64; 18],
+    pub ghost made: { Powers words } by { Powers-prop words },
 }
 
-fn power_at(p: &[u64; 18], i: usize) -> Block
-    requires { Powers p.now × (i < 9) }
-    ensures { value result ≡ power (key_of p.now) i }
+#[tactic(auto, using(crate::proofs::PowersLaws::filled_all))]
+pub fn powers(h: Block) -> KeyPowers
+    ensures { key_of result.words ≡ value h }
 {
-    Block {
-        hi: p[2 * i],
-        lo: p[2 * i + 1],
+    let mut words = [0u64; 18];
+    words[0] = h.hi;
+    words[1] = h.lo;
+    let mut v = h;
+    for i in 1..9 {
+        v = v.square();
+        words[2 * i] = v.hi;
+        words[2 * i + 1] = v.lo;
+    }
+    KeyPowers { words }
+}
+
+impl KeyPowers {
+    // h^(2^i).
+    #[tactic(auto, unfolding(block::specs::Value::value, crate::specs::Powers::element_at, crate::specs::Powers::Powers))]
+    pub fn at(&self, i: usize) -> Block
+        requires { i < 9 }
+        ensures { value result ≡ power (key_of self.now.words) i }
+    {
+        Block {
+            hi: self.words[2 * i],
+            lo: self.words[2 * i + 1],
+        }
     }
 }
 
 // An exponent t, and h^t.
-#[derive(Clone, Copy)]
+#[derive(Clone, Copy, Debug, PartialEq, Eq)]
 struct KeyPower {
     exponent: usize,
     element: Block,
 }
 
 // h^t for the largest power of two t not above k.
-fn largest_power(p: &[u64; 18], k: usize) -> KeyPower
-    requires { Powers p.now × (0 < k) × (k < 512) }
-    ensures exponent_value { (result.exponent ≡ 2 ^ log k) × (value result.element ≡ power (key_of p.now) (log k)) }
+fn largest_power(p: &KeyPowers, k: usize) -> KeyPower
+    requires { (0 < k) × (k < 512) }
+    ensures exponent_value { (result.exponent ≡ 2 ^ log k) × (value result.element ≡ power (key_of p.now.words) (log k)) }
     ensures exponent_le_k { (result.exponent ≤ k) × (k < 2 * result.exponent) }
 {
-    let mut t: usize = 1;
-    let mut i: usize = 0;
-    while t <= k / 2 {
-        t = t * 2;
-        i += 1;
-    }
+    // A cast below, since no From leads from u32 to usize.
+    let i = k.ilog2();
     KeyPower {
-        exponent: t,
-        element: power_at(p, i),
+        exponent: 1 << i,
+        element: p.at(i as usize),
     }
-}
-
-// a·b ⊕ c.
-fn mul_add(a: Block, b: Block, c: Block) -> Block
-    ensures { value result ≡ bit_xor (mul (value a) (value b)) (value c) }
-{
-    block::xor(block::mul(a, b), c)
 }
 
 // BRW of at most two blocks of x and then `last`.
-fn brw_small(p: &[u64; 18], x: &[u8], last: Block) -> Block
-    requires { Powers p.now × (length x.now < 48) }
-    ensures { value result ≡ B.brw (key_of p.now) (blocks_of x.now ++ (value last ∷ [])) }
+#[tactic(auto, using(crate::proofs::SliceLaws::one_block, crate::proofs::SliceLaws::two_blocks, crate::proofs::SliceLaws::three_blocks))]
+fn brw_small(p: &KeyPowers, x: &[u8], last: Block) -> Block
+    requires { length x.now < 48 }
+    ensures { value result ≡ B.brw (key_of p.now.words) (blocks_of x.now ++ (value last ∷ [])) }
 {
     let n = x.len() / 16;
     if n == 0 {
         return last;
     }
-    let h = power_at(p, 0);
-    let x1 = block::load(x, 0);
+    let h = p.at(0);
+    let x1 = Block::load(x, 0);
     if n == 1 {
-        return mul_add(x1, h, last);
+        return x1 * h ^ last;
     }
-    let h2 = power_at(p, 1);
-    let x2 = block::load(x, 16);
-    mul_add(block::xor(h, x1), block::xor(h2, x2), last)
+    let h2 = p.at(1);
+    let x2 = Block::load(x, 16);
+    (h ^ x1) * (h2 ^ x2) ^ last
 }
 
 // BRW of the blocks of x and then `last`: it need not lie behind them, so a caller copies nothing.
-pub fn brw_last(p: &[u64; 18], x: &[u8], last: Block) -> Block
-    requires { Powers p.now × (length x.now < 8176) }
-    ensures { value result ≡ B.brw (key_of p.now) (blocks_of x.now ++ (value last ∷ [])) }
+pub fn brw_last(p: &KeyPowers, x: &[u8], last: Block) -> Block
+    requires { length x.now < 8176 }
+    ensures { value result ≡ B.brw (key_of p.now.words) (blocks_of x.now ++ (value last ∷ [])) }
 {
     let k = x.len() / 16 + 1;
     if k < 4 {
@@ -105,12 +105,12 @@ pub fn brw_last(p: &[u64; 18], x: &[u8], last: Block) -> Block
     // The n blocks before Xt, the last of them by value.
     let n = t - 1;
     let at = 16 * (n - 1);
-    let before = brw_last(p, &x[..at], block::load(x, at));
+    let before = brw_last(p, &x[..at], Block::load(x, at));
     if t == k {
-        return block::mul(before, block::xor(power.element, last));
+        return before * (power.element ^ last);
     }
-    let xt = block::load(x, 16 * n);
+    let xt = Block::load(x, 16 * n);
     let e = 16 * t;
     let after = brw_last(p, &x[e..], last);
-    mul_add(before, block::xor(power.element, xt), after)
+    before * (power.element ^ xt) ^ after
 }

@@ -4,101 +4,104 @@
 ghost use Rattle.std.specs.Prelude.{◌≡◌, ◌+◌, ◌*◌, ◌<◌, ◌≤◌, ◌%◌, length};
 ghost use Rattle.block.specs.Bytes.{to_bytes, part, patch, same};
 ghost use Rattle.block.specs.Value.{value};
-ghost use Rattle.mode.specs.Prepared.{PadsReady, Ready};
+ghost use Rattle.mode.specs.Lent.{scheme_lent};
 ghost use Rattle.mode.specs.declared.Direction.TheVariants.{SealLocal};
 ghost use Rattle.mode.specs.Transforms.{transformed_by};
 ghost use Rattle.answers.specs.Answers.{judged_number};
+ghost use Rattle.answers.specs.Lent.{triple_of};
 ghost use Rattle.verdict.specs.Judging.{judged_by};
+ghost use Rattle.history.specs.Volume.{sector_of};
 ghost use Rattle.images.specs.Lent.{Within, Scratch};
 
-use aes::Table;
-use answers::Judged;
+use answers::{Found, Places, Refusal};
 use block::Block;
-use mode::{Context, Direction};
+use mode::{Direction, Keyed, Pads};
+use verdict::Part;
 
-// Judges sector i of the images with a prepared key.
-pub fn judge_part<'k>(
-    t: &Table,
-    w: &'k [u32],
-    powers: &'k [u64; 18],
-    ctx: Context,
-    s: usize,
-    i: usize,
-    local: &[u8],
-    tags: &[u8],
-    remote: &[u8],
+// A sector of a volume's three images, to be read: its parts lie within them.
+#[derive(Clone, Copy)]
+pub struct Sector<'a> {
+    pub images: Places<'a>,
+    pub size: usize,
+    pub number: usize,
+    pub ghost within: { Within size number (length images.local.now) (length images.tag.now) (length images.remote.now) },
+}
+
+impl<'a> Sector<'a> {
+    // The sector's three places.
+    #[tactic(auto, using(crate::proofs::Parts::bytes_lent, crate::proofs::Parts::lent_sector))]
+    pub fn places(&self) -> Places<'a>
+        ensures { triple_of result ≡ sector_of self.now.size self.now.number (triple_of self.now.images) }
+    {
+        let start = self.number * self.size;
+        let end = start + self.size;
+        let tag_start = self.number * 16;
+        let tag_end = tag_start + 16;
+        Places {
+            local: &self.images.local[start..end],
+            tag: &self.images.tag[tag_start..tag_end],
+            remote: &self.images.remote[start..end],
+        }
+    }
+}
+
+// Judges a sector with a prepared key.
+pub fn judge_part(
+    keyed: &Keyed,
+    tweak: Block,
+    sector: &Sector,
     out: &mut [u8],
     sum: &mut [u8],
     scratch: &mut [u8],
-) -> Judged
-    requires { Ready t.now w.now powers.now ctx × Within s i (length local.now) (length tags.now) (length remote.now) × Scratch s out.old sum.old scratch.old }
-    ensures { judged_by w.now powers.now ctx (part s i local.now) (part 16 i tags.now) (part s i remote.now) out.old ≡ (judged_number result, out.new) }
+) -> Result<Found, Refusal>
+    requires { Scratch sector.now.size out.old sum.old scratch.old }
+    ensures { judged_by (scheme_lent keyed.now) (value tweak) (sector_of sector.now.size sector.now.number (triple_of sector.now.images)) out.old
+        ≡ (judged_number result, out.new) }
 {
-    let a = i * s;
-    let e = a + s;
-    let b = i * 16;
-    let f = b + 16;
-    verdict::judge_in(
-        t,
-        w,
-        powers,
-        ctx,
-        &local[a..e],
-        &tags[b..f],
-        &remote[a..e],
-        out,
-        sum,
-        scratch,
-    )
+    let part = Part {
+        places: sector.places(),
+    };
+    verdict::judge_in(keyed, tweak, &part, out, sum, scratch)
 }
 
 // Writes a side of p, whose tag is g, to sector i of an image: the image's part is lent to the sealing of that side.
-pub fn write_side(
-    t: &Table,
-    w: &[u32],
-    beta: Block,
-    how: Direction,
-    g: Block,
-    p: &[u8],
-    i: usize,
-    image: &mut [u8],
-)
-    requires { PadsReady t.now w.now beta × (length p.now % 16 ≡ 0) × (length p.now ≤ 4096) × (i < 65536) × (i * length p.now + length p.now ≤ length image.old) }
-    ensures { image.new ≡ patch (length p.now) i (transformed_by how w.now (value g) p.now) image.old }
+#[tactic(auto, using(crate::proofs::Parts::lent_written))]
+pub fn write_side(pads: &Pads, how: Direction, g: Block, p: &[u8], i: usize, image: &mut [u8])
+    requires { (length p.now % 16 ≡ 0) × (length p.now ≤ 4096) × (i < 65536) × (i * length p.now + length p.now ≤ length image.old) }
+    ensures { image.new ≡ patch (length p.now) i (transformed_by how pads.now.words.now (value g) p.now) image.old }
 {
-    let s = p.len();
-    let a = i * s;
-    let e = a + s;
-    mode::transform(t, w, beta, how, g, p, &mut image[a..e]);
+    let start = i * p.len();
+    let end = start + p.len();
+    mode::transform(pads, how, g, p, &mut image[start..end]);
 }
 
 // Writes a tag to sector i of the tags.
+#[tactic(auto, using(crate::proofs::Parts::stored_written))]
 pub fn write_tag(g: Block, i: usize, tags: &mut [u8])
     requires { (i < 65536) × (i * 16 + 16 ≤ length tags.old) }
     ensures { tags.new ≡ patch 16 i (to_bytes 16 (value g)) tags.old }
 {
-    block::store(tags, i * 16, g);
+    g.store(tags, i * 16);
 }
 
 // Whether sector i of the local image is p's local sector, where p's tag is g.
+#[tactic(auto, using(crate::proofs::Parts::lent_compared))]
 pub fn fits_local(
-    t: &Table,
-    w: &[u32],
-    beta: Block,
+    pads: &Pads,
     g: Block,
     p: &[u8],
     i: usize,
     local: &[u8],
     scratch: &mut [u8],
 ) -> bool
-    requires { PadsReady t.now w.now beta × (length p.now % 16 ≡ 0) × (length p.now ≤ 4096) × (i < 65536) × (i * length p.now + length p.now ≤ length local.now) × (length scratch.old ≡ length p.now) }
-    ensures { result ≡ same (part (length p.now) i local.now) (transformed_by SealLocal w.now (value g) p.now) }
+    requires { (length p.now % 16 ≡ 0) × (length p.now ≤ 4096) × (i < 65536) × (i * length p.now + length p.now ≤ length local.now)
+        × (length scratch.old ≡ length p.now) }
+    ensures { result ≡ same (part (length p.now) i local.now) (transformed_by SealLocal pads.now.words.now (value g) p.now) }
 {
-    let s = p.len();
-    let a = i * s;
-    let e = a + s;
-    mode::transform(t, w, beta, Direction::SealLocal, g, p, scratch);
-    block::same(&local[a..e], &scratch[..])
+    let start = i * p.len();
+    let end = start + p.len();
+    mode::transform(pads, Direction::SealLocal, g, p, scratch);
+    local[start..end] == scratch[..]
 }
 
 // Whether sector i of the tags is g.
@@ -106,9 +109,5 @@ pub fn fits_tag(g: Block, i: usize, tags: &[u8]) -> bool
     requires { (i < 65536) × (i * 16 + 16 ≤ length tags.now) }
     ensures { result ≡ same (part 16 i tags.now) (to_bytes 16 (value g)) }
 {
-    let a = i * 16;
-    let e = a + 16;
-    let mut bytes = [0u8; 16];
-    block::store(&mut bytes[..], 0, g);
-    block::same(&tags[a..e], &bytes[..])
+    Block::load(tags, i * 16) == g
 }

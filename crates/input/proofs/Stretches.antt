@@ -71,20 +71,6 @@ hold_part line part u n long most least =
     go (yes h) = take_all n part (omega arith) ∙ sym (take_all (16499 - u) part h)
     go (no h) = let e : n ≡ 16499 - u = omega arith in ap (λ (k : ℕ). take k part) e
 
--- ---- printing behind what is printed
-
--- r bytes, those of p, put at the front of what stands behind the first a
-pub put_behind : (out p : List ℕ) (a r : ℕ) → a ≤ length out
-    → put_mid a (length out - a) out (p ++ drop r (take (length out - a) (drop a out))) ≡ take a out ++ (p ++ drop (a + r) out)
-put_behind out p a r h =
-    let all : take (length out - a) (drop a out) ≡ drop a out = take_all (length out - a) (drop a out) (simp length-drop (omega arith)) in
-    let behind : length (drop a out) ≤ length out - a = simp length-drop (omega arith) in
-    let none : drop (length out - a) (drop a out) ≡ [] = drop_of_length-le (drop a out) behind in
-    ap (λ (x : List ℕ). take a out ++ x)
-    (ap₂ (λ (x y : List ℕ). (p ++ drop r x) ++ y) all none
-    ∙ append-nil (p ++ drop r (drop a out))
-    ∙ ap (λ (x : List ℕ). p ++ x) (drop-drop r a out))
-
 -- ---- the first n bytes of a list of m, or all where n is more
 
 pub take_least : (l : List ℕ) (n m k : ℕ) → length l ≡ m → k ≡ min n m → take k l ≡ take n l

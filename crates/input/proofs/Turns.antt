@@ -2,72 +2,24 @@
 use mathlib.Core.Path.{◌≡◌, refl, sym, ap, ap₂, ◌∙◌, subst}
 use mathlib.Core.Bool.{Bool, true, false, cond}
 use mathlib.Core.List.{List, [], ◌∷◌, ◌++◌, append-nil}
-use Prim.Native.Nat.{ℕ, zero, suc, ◌+◌, ◌-◌, ◌≤◌, ◌<◌}
+use Prim.Native.Nat.{ℕ, zero, suc, ◌-◌, ◌≤◌}
 use native.Mathlib.Nat.{le_trans}
 use native.Mathlib.Omega.{arith}
-use lib.IntN.{ℤ, pos, negsuc}
-use lib.ListN.{length, take, drop, get_or, set, replicate, length-append, length-set, length-replicate, take-append-drop}
-use lib.Seq.{length-take-le, take_at, get_or-append-add}
-use Rattle.block.proofs.Lists.{fill_turn, fill_end}
+use lib.IntN.{ℤ, pos, negsuc, nat_abs}
+use mir.Syntax.{w64}
+use mir.Val.{Fits}
+use Rattle.std.specs.Int.{FitsUnsignedBits}
+use lib.ListN.{length, take, drop, replicate}
+use lib.Seq.{length-take-le, take_at}
 use Rattle.input.specs.Lines.{lines_from, at_end, print_lines, print_input, print_ended, held, Fed, fed, finished}
 use Rattle.input.specs.Turn.{Read, failed, ended, gave, read_of, Turned, turned, stored, turn_call, if_read_on, printed_by, reads_of, input_of, ends, TurnsWhole}
 use Rattle.line.specs.Inner.{Prints}
-use Rattle.input.specs.Inner.{Feeds, given_of}
-use Rattle.input.specs.declared.Given.TheVariants as G
+use Rattle.input.specs.Inner.{Feeds}
 use Rattle.input.specs.declared.Next.TheVariants.{ReadOn, Ended, Failed}
 use Rattle.input.specs.declared.Outcome.{Outcome}
 use Rattle.input.proofs.Feeding.{carried, buffer, finished_line}
 
--- ---- the store for a line, cleared behind its first n bytes
-
-get_or_zeros : (n i : ℕ) → ◌≡◌ {A = ℕ} (get_or (replicate n 0) i 0) 0
-get_or_zeros zero i = refl
-get_or_zeros (suc n) zero = refl
-get_or_zeros (suc n) (suc i) = get_or_zeros n i
-
-unfoldable pub cleared : ℕ → List ℕ → List ℕ
-cleared n line = take n line ++ replicate (length line - n) 0
-
--- the loop: of o the first i bytes are cleared, and the rest is as before
-pub record Clearing (line : List ℕ) (n : ℕ) (o : List ℕ) (i : ℕ) : Type 0 where
-  pub from : n ≤ i
-  pub within : i ≤ length line
-  pub long : length o ≡ length line
-  pub bytes : o ≡ take i (cleared n line) ++ drop i line
-
-module _ (line : List ℕ) (n : ℕ) (h : n ≤ length line) where
-  cleared_long : length (cleared n line) ≡ length line
-  unfolding cleared
-  cleared_long = simp (length-append, length-replicate) (omega (arith, length-take-le n line h))
-
-  cleared-zero : (i : ℕ) → n ≤ i → 0 ≡ get_or (cleared n line) i 0
-  unfolding cleared
-  cleared-zero i k =
-      let e : i ≡ length (take n line) + (i - n) = omega (arith, length-take-le n line h) in
-      sym (ap (λ (j : ℕ). get_or (cleared n line) j 0) e ∙ get_or-append-add (take n line) (replicate (length line - n) 0) (i - n) 0 ∙ get_or_zeros (length line - n) (i - n))
-
-  pub clearing_start : Clearing line n line n
-  unfolding cleared
-  clearing_start = record {
-    from = omega arith;
-    within = h;
-    long = refl;
-    bytes = sym (take-append-drop n line)
-        ∙ ap (λ (l : List ℕ). l ++ drop n line) (sym (take_at (take n line) (replicate (length line - n) 0) n (length-take-le n line h)));
-  }
-
-  pub clearing_turn : {o : List ℕ} {i : ℕ} → Clearing line n o i → i < length line → Clearing line n (set o i 0) (i + 1)
-  clearing_turn {o} {i} c k = record {
-    from = omega (arith, c.from);
-    within = omega arith;
-    long = simp length-set c.long;
-    bytes = ap (λ (l : List ℕ). set l i 0) c.bytes
-        ∙ fill_turn (cleared n line) line i 0 (omega (arith, cleared_long)) k (cleared-zero i c.from);
-  }
-
-  pub clearing_end : {o : List ℕ} {i : ℕ} → Clearing line n o i → length line ≤ i → o ≡ take n line ++ replicate (length line - n) 0
-  unfolding cleared
-  clearing_end {o} {i} c k = c.bytes ∙ fill_end (cleared n line) line i (omega (arith, cleared_long)) k
+-- ---- the store for a line
 
 -- cleared behind what is held
 pub stored_is : (line : List ℕ) (u : ℕ) {rest : List ℕ} → length line ≡ 16499 → u ≤ 16499 → take u line ≡ rest
@@ -84,22 +36,23 @@ refeed u p line before after m e h x = subst (λ (z : Fed). Feeds z u line p bef
 
 -- ---- a turn
 
-read-failed : (got : ℤ) (buffer : List ℕ) → given_of got ≡ G.Failed → read_of got buffer ≡ failed
+-- what `usize::try_from` says of the number that a read answered
+pub read_failed : (got : ℤ) (buffer : List ℕ) → Fits w64 (nat_abs got) → (FitsUnsignedBits 64 got → ⊥) → read_of got buffer ≡ failed
 unfolding read_of
-read-failed (pos n) buffer e = absurd (let z : ◌≡◌ {A = ℕ} 0 1 = cc in omega arith)
-read-failed (negsuc n) buffer e = refl
+read_failed (pos n) buffer h e = absurd (e h.fits)
+read_failed (negsuc n) buffer h e = refl
 
-read-ended : (got : ℤ) (buffer : List ℕ) {n : ℕ} → given_of got ≡ G.Bytes n → n ≡ 0 → read_of got buffer ≡ ended
+pub read_ended : (got : ℤ) (n : ℕ) (buffer : List ℕ) → FitsUnsignedBits 64 got × (n ≡ nat_abs got) → n ≡ 0 → read_of got buffer ≡ ended
 unfolding read_of
-read-ended (pos zero) buffer e z = refl
-read-ended (pos (suc k)) buffer e z = absurd (let y : suc k ≡ 0 = cc in omega arith)
-read-ended (negsuc k) buffer e z = absurd (let y : ◌≡◌ {A = ℕ} 0 1 = cc in omega arith)
+read_ended (pos zero) n buffer e z = refl
+read_ended (pos (suc k)) n buffer e z = absurd (omega (arith, e.1))
+read_ended (negsuc k) n buffer e z = absurd e.0
 
-read-gave : (got : ℤ) (buffer : List ℕ) {n : ℕ} → given_of got ≡ G.Bytes n → (n ≡ 0 → ⊥) → read_of got buffer ≡ gave (take n buffer)
+pub read_gave : (got : ℤ) (n : ℕ) (buffer : List ℕ) → FitsUnsignedBits 64 got × (n ≡ nat_abs got) → (n ≡ 0 → ⊥) → read_of got buffer ≡ gave (take n buffer)
 unfolding read_of
-read-gave (pos zero) buffer {n} e z = let y : n ≡ 0 = cc in absurd (z y)
-read-gave (pos (suc k)) buffer {n} e z = let y : suc k ≡ n = cc in ap (λ (m : ℕ). gave (take m buffer)) y
-read-gave (negsuc k) buffer e z = absurd (let y : ◌≡◌ {A = ℕ} 0 1 = cc in omega arith)
+read_gave (pos zero) n buffer e z = absurd (z e.1)
+read_gave (pos (suc k)) n buffer e z = ap (λ (m : ℕ). gave (take m buffer)) (sym e.1)
+read_gave (negsuc k) n buffer e z = absurd e.0
 
 module _ (got : ℤ) (buffer line : List ℕ) (used : ℕ) (out : List ℕ) where
   turn_is : {t : Turned} {r : Read} {u p : ℕ} {line' out' : List ℕ} → read_of got buffer ≡ r → turned (take used line) r ≡ t
@@ -118,20 +71,20 @@ module _ (got : ℤ) (buffer line : List ℕ) (used : ℕ) (out : List ℕ) wher
     stored_none : line' ≡ stored []
     stored_none = none ∙ (stored_is line 0 long (omega arith) refl).0
 
-    pub turn_failed : given_of got ≡ G.Failed → turn_call got buffer line used out ≡ (record { used = 0; printed = 0; next = Failed }, line', out)
+    pub turn_failed : read_of got buffer ≡ failed → turn_call got buffer line used out ≡ (record { used = 0; printed = 0; next = Failed }, line', out)
     unfolding turned
-    turn_failed e = turn_is (read-failed got buffer e) refl stored_none refl refl refl
+    turn_failed e = turn_is e refl stored_none refl refl refl
 
-    pub turn_ended : {n p m : ℕ} {out' : List ℕ} → given_of got ≡ G.Bytes n → n ≡ 0 → Prints (finished (take used line)) out out' p m
+    pub turn_ended : {p m : ℕ} {out' : List ℕ} → read_of got buffer ≡ ended → Prints (finished (take used line)) out out' p m
         → turn_call got buffer line used out ≡ (record { used = 0; printed = p; next = Ended }, line', out')
     unfolding turned
-    turn_ended e z x = turn_is (read-ended got buffer e z) refl stored_none refl x.0 x.1
+    turn_ended e x = turn_is e refl stored_none refl x.0 x.1
 
-  pub turn_fed : {n u p m : ℕ} {line' out' : List ℕ} → given_of got ≡ G.Bytes n → (n ≡ 0 → ⊥)
+  pub turn_fed : (n : ℕ) {u p m : ℕ} {line' out' : List ℕ} → read_of got buffer ≡ gave (take n buffer)
       → Feeds (fed (take used line) (take n buffer)) u line' p out out' m
       → turn_call got buffer line used out ≡ (record { used = u; printed = p; next = ReadOn }, line', out')
   unfolding turned
-  turn_fed e some x = turn_is (read-gave got buffer e some) refl x.0 x.1 x.2.0 x.2.1
+  turn_fed n e x = turn_is e refl x.0 x.1 x.2.0 x.2.1
 
 -- ---- the theorem
 

@@ -1,4 +1,5 @@
-// The program `frames` between its reads and its writes: an input fed one buffer at a time as lines, and what a turn does with what a read gave.
+// The program `frames` between its reads and its writes: an input fed one buffer at a time as lines, and what a turn does with what a read
+// gave.
 #![tactic(auto)]
 
 ghost use Rattle.std.specs.Prelude.{◌≡◌, ◌++◌, ◌+◌, ◌*◌, ◌-◌, ◌≤◌, min, length, take, drop, replicate};
@@ -6,21 +7,24 @@ ghost use Rattle.line.specs.Line.{print_line};
 ghost use Rattle.line.specs.Inner.{Prints};
 ghost use Rattle.input.specs.Lines.{held, fed, finished};
 ghost use Rattle.input.specs.Turn.{turn_call};
-ghost use Rattle.input.specs.Inner.{Feeds, given_of};
+ghost use Rattle.input.specs.Inner.{Feeds};
+
+// How many bytes a read may give.
+pub const BUFFER: usize = 65536;
+
+// How many bytes of a line are held: one more than the longest line has, which is enough to refuse it.
+pub const HELD: usize = line::LONGEST + 1;
+
+// Room for what a buffer prints: for each of its bytes at most three, and for each byte held before it one.
+pub const PRINTED: usize = 3 * BUFFER + HELD;
 
 // ---- an input fed one buffer at a time
 
 // How many bytes of a line that has not ended are held, and how many there are to print.
-#[derive(Clone, Copy)]
+#[derive(Clone, Copy, Debug, PartialEq, Eq)]
 struct Fed {
     used: usize,
     printed: usize,
-}
-
-fn least(a: usize, b: usize) -> usize
-    ensures { result ≡ min a b }
-{
-    if a < b { a } else { b }
 }
 
 // Puts a stretch of a line behind its first `used` bytes, as far as there is room, and gives how many bytes are held then.
@@ -28,24 +32,27 @@ fn hold(part: &[u8], line: &mut [u8], used: usize) -> usize
     requires { (length line.old ≡ 16499) × (used ≤ 16499) }
     ensures { (take result line.new ≡ held (take used line.old ++ part.now)) × (result ≤ 16499) × (result ≤ used + length part.now) }
 {
-    let n = least(part.len(), 16499 - used);
+    let n = part.len().min(HELD - used);
     let end = used + n;
-    block::copy(&part[..n], &mut line[used..end]);
+    line[used..end].copy_from_slice(&part[..n]);
     end
 }
 
 // Prints a held line behind the first `printed` bytes of `out`, and gives how many bytes are printed then.
 fn print_held(line: &[u8], used: usize, out: &mut [u8], printed: usize) -> usize
     requires { (used ≤ length line.now) × (printed + used + 3 ≤ length out.old) }
-    ensures { (out.new ≡ take printed out.old ++ (print_line (take used line.now) ++ drop result out.old)) × (result ≡ printed + length (print_line (take used line.now))) × (result ≤ printed + used + 3) }
+    ensures { (out.new ≡ take printed out.old ++ (print_line (take used line.now) ++ drop result out.old))
+        × (result ≡ printed + length (print_line (take used line.now))) × (result ≤ printed + used + 3) }
 {
     printed + line::print_line(&line[..used], &mut out[printed..])
 }
 
-// Feeds a whole buffer. No more than 16,499 bytes of a line are held, which are enough to refuse it.
+// Feeds a whole buffer. No more than 16,499 bytes of a line are held, which are enough to refuse it. A `for` over `split_inclusive` was
+// tried: std has no lemma on what its pieces are, and the proof did not close.
 fn feed_buffer(buffer: &[u8], line: &mut [u8], used: usize, out: &mut [u8]) -> Fed
     requires { (length line.old ≡ 16499) × (used ≤ 16499) × (used + 3 * length buffer.now ≤ length out.old) }
-    ensures { (take result.used line.new ≡ (fed (take used line.old) buffer.now).rest) × Prints (fed (take used line.old) buffer.now).printed out.old out.new result.printed (length out.old) × (result.used ≤ 16499) }
+    ensures { (take result.used line.new ≡ (fed (take used line.old) buffer.now).rest)
+        × Prints (fed (take used line.old) buffer.now).printed out.old out.new result.printed (length out.old) × (result.used ≤ 16499) }
 {
     let mut at: usize = 0;
     let mut size = used;
@@ -70,11 +77,7 @@ fn clear(line: &mut [u8], n: usize)
     requires { n ≤ length line.old }
     ensures { line.new ≡ take n line.old ++ replicate (length line.old - n) 0 }
 {
-    let mut i = n;
-    while i < line.len() {
-        line[i] = 0;
-        i += 1;
-    }
+    line[n..].fill(0);
 }
 
 // Feeds the first n bytes of a buffer, and clears the store behind what is held.
@@ -90,22 +93,22 @@ fn feed_front(buffer: &[u8], n: usize, line: &mut [u8], used: usize, out: &mut [
 // Feeds the first n bytes of a buffer, or all where n is more. The first `used` bytes of `line`, or all, are those of a line that has not
 // ended. What is to be printed comes to the front of `out`: at most three bytes for each byte fed, and one for each held before.
 fn feed(
-    buffer: &[u8; 65536],
+    buffer: &[u8; BUFFER],
     n: usize,
-    line: &mut [u8; 16499],
+    line: &mut [u8; HELD],
     used: usize,
-    out: &mut [u8; 213107],
+    out: &mut [u8; PRINTED],
 ) -> Fed
     ensures { Feeds (fed (take used line.old) (take n buffer.now)) result.used line.new result.printed out.old out.new 213107 }
 {
-    feed_front(buffer, least(n, 65536), line, least(used, 16499), out)
+    feed_front(buffer, n.min(BUFFER), line, used.min(HELD), out)
 }
 
 // Prints the line that the end of the input ends, if it is not empty: the first `used` bytes of `line`, or all.
-fn finish(line: &[u8; 16499], used: usize, out: &mut [u8; 213107]) -> usize
+fn finish(line: &[u8; HELD], used: usize, out: &mut [u8; PRINTED]) -> usize
     ensures { Prints (finished (take used line.now)) out.old out.new result 16502 }
 {
-    let size = least(used, 16499);
+    let size = used.min(HELD);
     if size == 0 {
         return 0;
     }
@@ -114,15 +117,8 @@ fn finish(line: &[u8; 16499], used: usize, out: &mut [u8; 213107]) -> usize
 
 // ---- a turn of the program
 
-// What a read gave: no bytes are the end of the input.
-#[derive(Clone, Copy)]
-enum Given {
-    Failed,
-    Bytes(usize),
-}
-
 // What the program does after a turn.
-#[derive(Clone, Copy)]
+#[derive(Clone, Copy, Debug, PartialEq, Eq)]
 pub enum Next {
     ReadOn,
     Ended,
@@ -130,59 +126,49 @@ pub enum Next {
 }
 
 // What a turn leaves: how many bytes of a line that has not ended are held, how many there are to print, and what comes next.
-#[derive(Clone, Copy)]
+#[derive(Clone, Copy, Debug, PartialEq, Eq)]
 pub struct Outcome {
     pub used: usize,
     pub printed: usize,
     pub next: Next,
 }
 
-// From the number that a read answered.
-fn given_by(got: isize) -> Given
-    ensures { result ≡ given_of got }
-{
-    if got < 0 {
-        return Given::Failed;
-    }
-    Given::Bytes(got as usize)
-}
-
 // One turn: `got` is what a read into `buffer` answered, and the first `used` bytes of `line` are held. What is to be printed comes to the
-// front of `out`. A read that fails is no end of the input: what is held of a line then stays without an answer.
+// front of `out`. A read that fails is no end of the input: what is held of a line then stays without an answer. A number with a sign, and
+// `used` beside `line`, are what `turn_call` and `TurnsWhole` speak of: any number, and any `used`.
 pub fn turn(
     got: isize,
-    buffer: &[u8; 65536],
-    line: &mut [u8; 16499],
+    buffer: &[u8; BUFFER],
+    line: &mut [u8; HELD],
     used: usize,
-    out: &mut [u8; 213107],
+    out: &mut [u8; PRINTED],
 ) -> Outcome
     ensures { (turn_call got buffer.now line.old used out.old ≡ (result, line.new, out.new)) × (result.printed ≤ 213107) }
 {
-    let read = given_by(got);
-    match read {
-        Given::Failed => {
+    match usize::try_from(got) {
+        Ok(0) => {
+            let printed = finish(line, used, out);
             clear(line, 0);
             Outcome {
                 used: 0,
-                printed: 0,
-                next: Next::Failed,
+                printed,
+                next: Next::Ended,
             }
         }
-        Given::Bytes(n) => {
-            if n == 0 {
-                let printed = finish(line, used, out);
-                clear(line, 0);
-                return Outcome {
-                    used: 0,
-                    printed,
-                    next: Next::Ended,
-                };
-            }
+        Ok(n) => {
             let fed = feed(buffer, n, line, used, out);
             Outcome {
                 used: fed.used,
                 printed: fed.printed,
                 next: Next::ReadOn,
+            }
+        }
+        Err(_) => {
+            clear(line, 0);
+            Outcome {
+                used: 0,
+                printed: 0,
+                next: Next::Failed,
             }
         }
     }

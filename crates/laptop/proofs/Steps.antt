@@ -4,17 +4,17 @@ use mathlib.Core.List.{List, [], ◌∷◌}
 use Prim.Native.Nat.{ℕ, min}
 use lib.ListN.{length}
 use Rattle.mode.specs.Sealing.{Triple}
-use Rattle.answers.specs.declared.Judged.{Judged}
-use Rattle.answers.specs.declared.Judged.TheVariants as J
-use Rattle.answers.specs.declared.Place as E
+use Rattle.answers.specs.declared.Found.{Found}
+use Rattle.answers.specs.declared.Found.TheVariants.{Whole, Doubtful}
+use Rattle.answers.specs.declared.Place.{Place}
 use Rattle.answers.specs.declared.Refusal.{Refusal}
-use Rattle.answers.specs.Answers.{place_named, judged_number, refusal_number}
+use Rattle.answers.specs.Answers.{place_named, finding_number, refusal_number}
 use Rattle.answers.specs.Rules.{Args}
 use Rattle.history.specs.Volume.{Call, first, second, third, mend, read, mirror}
 use Rattle.suspects.specs.Marks.{map_outcome, map_read_outcome}
 use Rattle.suspects.proofs.Marking.{refusal_apart}
 use Rattle.suspects.proofs.Calls.{map_calls}
-use Rattle.writes.specs.Write.{stages, calls_leave, write_outcome}
+use Rattle.writes.specs.Write.{stages, following, calls_leave, write_outcome}
 use Rattle.writes.proofs.Following.{after_doubt, after-refusal, wrote}
 use Rattle.writes.proofs.Room.{least_read}
 use Rattle.laptop.specs.declared.Step.{Step}
@@ -51,16 +51,21 @@ module _ (a : Args) where
 -- ---- the write
 
 module _ (v : Triple) (a : Args) (P m : List ℕ) where
-  module _ {j : Judged} {d : Triple × List ℕ} (reads : map_outcome mirror v a (read (length P)) m ≡ (judged_number j, d)) where
-    answered : {i : Judged} → j ≡ i → map_outcome mirror v a (read (length P)) m ≡ (judged_number i, d)
-    answered q = reads ∙ ap (λ (i : Judged). (judged_number i, d)) q
+  module _ {j : Found} {d : Triple × List ℕ} (reads : map_outcome mirror v a (read (length P)) m ≡ (finding_number j, d)) where
+    pub wrote_doubtful : {p : Place} → j ≡ Doubtful p → {e f : Triple × List ℕ} → (map_outcome mirror d.0 a mend d.1).1 ≡ e → calls_leave mirror a (stages P) e ≡ f
+        → write_outcome mirror v a P m ≡ (finding_number j, f)
+    wrote_doubtful {p} q h g =
+        wrote v a P m reads (ap (λ (i : Found). following P (finding_number i)) q ∙ after_doubt P (place_named p))
+        (after_one a (stages P) mend d.0 d.1 h g)
 
-    pub wrote_whole : j ≡ J.Whole → {e : Triple × List ℕ} → calls_leave mirror a (stages P) d ≡ e → write_outcome mirror v a P m ≡ (0, e)
-    wrote_whole q g = wrote v a P m (answered q) refl g
+    pub wrote_whole : ((p : Place) → j ≡ Doubtful p → ⊥) → {e : Triple × List ℕ} → calls_leave mirror a (stages P) d ≡ e → write_outcome mirror v a P m ≡ (finding_number j, e)
+    wrote_whole q g = wrote v a P m reads (go j q) g
+      where
+        go : (i : Found) → ((p : Place) → i ≡ Doubtful p → ⊥) → following P (finding_number i) ≡ stages P
+        go Whole q = refl
+        go (Doubtful p) q = absurd (q p refl)
 
-    pub wrote_doubtful : {p : E.Place} → j ≡ J.Doubtful p → {e f : Triple × List ℕ} → (map_outcome mirror d.0 a mend d.1).1 ≡ e → calls_leave mirror a (stages P) e ≡ f
-        → write_outcome mirror v a P m ≡ (judged_number (J.Doubtful p), f)
-    wrote_doubtful {p} q h g = wrote v a P m (answered q) (after_doubt P (place_named p)) (after_one a (stages P) mend d.0 d.1 h g)
-
-    pub wrote_refused : {f : Refusal} → j ≡ J.Refused f → write_outcome mirror v a P m ≡ (refusal_number f, d)
-    wrote_refused {f} q = wrote v a P m (answered q) (after-refusal P (refusal_number f) (refusal_apart f)) refl
+  pub wrote_refused : (f : Refusal) {k : ℕ} {d : Triple × List ℕ} → map_outcome mirror v a (read (length P)) m ≡ (refusal_number f, d) → k ≡ refusal_number f
+      → write_outcome mirror v a P m ≡ (k, d)
+  wrote_refused f {d = d} reads e =
+      wrote v a P m reads (after-refusal P (refusal_number f) (refusal_apart f)) refl ∙ ap (λ (k : ℕ). (k, d)) (sym e)

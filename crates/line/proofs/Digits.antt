@@ -54,3 +54,6 @@ module _ (bytes d o : List ℕ) (i : ℕ) (long : length d ≡ 2 * length bytes)
 
   pub encoding_end : length bytes ≤ i → o ≡ encode bytes
   encoding_end h = I.digits ∙ fill_end (encode bytes) d (2 * i) (omega (arith, length-encode bytes)) (omega arith)
+
+-- the loop but for its turn
+pub ruleset encodings = (encoding_start, encoding_end)

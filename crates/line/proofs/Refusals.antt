@@ -1,15 +1,12 @@
 -- What is printed for a refusal, and what a line that passes has. Assumes nothing.
-use mathlib.Core.Path.{◌≡◌, refl, sym, ap, ◌∙◌, subst}
+use mathlib.Core.Path.{◌≡◌, refl, ap, ◌∙◌}
 use mathlib.Core.Bool.{Bool, true, false, not, cond}
 use mathlib.Core.List.{List, [], ◌∷◌, ◌++◌}
 use mathlib.Core.Option.{Option, none, some}
-use Prim.Native.Nat.{ℕ, zero, suc, ◌+◌, ◌*◌, ◌/◌, ◌%◌, ◌≤◌}
-use native.Mathlib.Nat.{le_trans, le_of_eq}
-use native.Mathlib.Omega.{arith}
+use Prim.Native.Nat.{ℕ, ◌≤◌}
 use lib.Dec.{eqb, leb}
-use lib.ListN.{length, take, replicate, length-replicate}
-use lib.Seq.{length-take-le}
-use borrow.Author.Tests.{eqb-true, eqb-false, leb-false, le-leb}
+use lib.ListN.{length, replicate}
+use borrow.Author.Tests.{le-leb}
 use Rattle.answers.specs.Rules.{Rule, rule, first_of}
 use Rattle.answers.proofs.Rules.{first_none, first_some_lem}
 use Rattle.text.specs.Digits.{all_digits, decode}
@@ -50,40 +47,6 @@ module _ (line : List ℕ) where
     pub digits_pass : all_digits line ≡ true → print_line line ≡ shown (frame_answer (decode line))
     unfolding print_line line_answer
     digits_pass d = shown_none (frame_answer (decode line)) (first_none digit_rule (line_rules (length line)) e ∙ ap (λ b. first_of (rule 12 (not b) ∷ [])) d)
-
--- a line that is not refused for its length
-line_length : (n : ℕ) → first_of (line_rules n) ≡ none → (1 ≤ n) × (n ≤ 16498) × (n % 2 ≡ 0)
-line_length n e = go (eqb n 0) (leb 16499 n) (eqb (n % 2) 0) refl refl refl e
-  where
-    go : (b d t : Bool) → eqb n 0 ≡ b → leb 16499 n ≡ d → eqb (n % 2) 0 ≡ t
-        → first_of (rule 12 b ∷ rule 12 d ∷ rule 12 (not t) ∷ []) ≡ none → (1 ≤ n) × (n ≤ 16498) × (n % 2 ≡ 0)
-    go false false true p q r k =
-        let u = eqb-false n 0 p in
-        (pos n u, (let v = leb-false 16499 n q in omega arith), eqb-true (n % 2) 0 r)
-      where
-        pos : (m : ℕ) → (m ≡ 0 → ⊥) → 1 ≤ m
-        pos zero h = absurd (h refl)
-        pos (suc m) h = omega arith
-    go true d t p q r k = absurd (let z : ◌≡◌ {A = ℕ} 0 1 = cc in omega arith)
-    go false true t p q r k = absurd (let z : ◌≡◌ {A = ℕ} 0 1 = cc in omega arith)
-    go false false false p q r k = absurd (let z : ◌≡◌ {A = ℕ} 0 1 = cc in omega arith)
-
--- the bytes of such a line find room
-module _ (line : List ℕ) (e : first_of (line_rules (length line)) ≡ none) where
-  abbrev frame : List ℕ
-  frame = take {A = ℕ} (length line / 2) (replicate 8249 0)
-
-  pub half_within : length line / 2 ≤ 8249
-  half_within = let z = line_length (length line) e in omega arith
-
-  pub frame_long : length line / 2 ≡ length frame
-  frame_long = sym (length-take-le (length line / 2) (replicate {A = ℕ} 8249 0) (le_trans half_within (le_of_eq (sym (length-replicate {A = ℕ} 8249 0)))))
-
-  pub frame_room : (n : ℕ) → length line + 3 ≤ n
-      → (first_of (line_rules (length line)) ≡ none) × (length line ≡ 2 * length frame) × (1 ≤ length frame) × (length line + 3 ≤ n)
-  frame_room n h =
-      subst (λ (k : ℕ). (first_of (line_rules (length line)) ≡ none) × (length line ≡ 2 * k) × (1 ≤ k) × (length line + 3 ≤ n)) frame_long
-      (let z = line_length (length line) e in (e, omega arith, omega arith, h))
 
 -- ---- a long line is refused whatever its bytes are
 

@@ -1,5 +1,5 @@
 -- What is printed of a frame's answer. Assumes nothing.
-use mathlib.Core.Path.{◌≡◌, refl, sym, ap, ap₂, ◌∙◌, subst}
+use mathlib.Core.Path.{◌≡◌, refl, sym, ap, ap₂, ◌∙◌}
 use mathlib.Core.Bool.{Bool, true, false, cond}
 use mathlib.Core.List.{List, [], ◌++◌}
 use Prim.Native.Nat.{ℕ, ◌+◌, ◌*◌, ◌≤◌}
@@ -9,10 +9,12 @@ use lib.ListN.{length, take, drop, replicate, length-replicate}
 use lib.Seq.{take_all}
 use Rattle.block.proofs.Lists.{take_zeros}
 use Rattle.answers.specs.Answers.{doubt_number, place_named, judged_number}
-use Rattle.answers.specs.declared.Judged.{Judged}
-use Rattle.answers.specs.declared.Judged.TheVariants as J
+use Rattle.std.specs.Prelude.{Result, Ok, Err}
+use Rattle.answers.specs.declared.Refusal.{Refusal}
+use Rattle.answers.specs.declared.Found.{Found}
+use Rattle.answers.specs.declared.Found.TheVariants.{Whole, Doubtful}
 use Rattle.frame.specs.Frame.{called, given, refused, with_plaintext, answered}
-use Rattle.frame.specs.Inner.{Sectors, plaintext_length}
+use Rattle.frame.specs.Inner.{plaintext_length}
 use Rattle.frame.proofs.Frames.{doubt_plain, refusal_bare}
 use Rattle.line.specs.Line.{printed, shown}
 use Rattle.line.specs.Inner.{Prints}
@@ -32,14 +34,14 @@ shown_by {x} {n} {o} {b} e h = ap (λ z. shown (answered z)) e ∙ ap (λ d. sho
 
 -- what is shown for the code's answer to a call: its number, and as much of the output as comes with it
 module _ {x : ℕ × List ℕ} {o : List ℕ} where
-  shown-judged : (j : Judged) → x ≡ (judged_number j, o) → shown (answered x) ≡ printed (judged_number j) (take (plaintext_length j (length o)) o)
+  shown-judged : (j : Result Found Refusal) → x ≡ (judged_number j, o) → shown (answered x) ≡ printed (judged_number j) (take (plaintext_length j (length o)) o)
   unfolding with_plaintext
-  shown-judged J.Whole e = shown_by e refl ∙ ap (printed 0) (sym (take_all (length o) o (omega arith)))
-  shown-judged (J.Doubtful p) e =
+  shown-judged (Ok Whole) e = shown_by e refl ∙ ap (printed 0) (sym (take_all (length o) o (omega arith)))
+  shown-judged (Ok (Doubtful p)) e =
       shown_by e (doubt_plain (place_named p)) ∙ ap (printed (doubt_number (place_named p))) (sym (take_all (length o) o (omega arith)))
-  shown-judged (J.Refused f) e = shown_by e (refusal_bare f)
+  shown-judged (Err f) e = shown_by e (refusal_bare f)
 
-  pub shown-answer : (j : Judged) {n k : ℕ} → x ≡ (judged_number j, o) → n ≡ judged_number j → k ≡ plaintext_length j (length o)
+  pub shown-answer : (j : Result Found Refusal) {n k : ℕ} → x ≡ (judged_number j, o) → n ≡ judged_number j → k ≡ plaintext_length j (length o)
       → shown (answered x) ≡ printed n (take k o)
   shown-answer j e en ek = shown-judged j e ∙ ap₂ (λ (a b : ℕ). printed a (take b o)) (sym en) (sym ek)
 
@@ -51,9 +53,6 @@ module _ (f : List ℕ) (s : ℕ) (h : s ≤ 4096) where
 
   room_long : length room ≡ s
   room_long = ap length (take_zeros s 4096 h) ∙ length-replicate s 0
-
-  pub room_fits : (n : ℕ) → Sectors s f → 2 * s + 3 ≤ n → Sectors (length room) f × (2 * length room + 3 ≤ n)
-  room_fits n p q = subst (λ (k : ℕ). Sectors k f × (2 * k + 3 ≤ n)) (sym room_long) (p, q)
 
   pub room_printed : (before after : List ℕ) (r : ℕ) → Prints (shown (answered (called f room))) before after r (2 * length room + 3)
       → Prints (shown (answered (called f (replicate s 0)))) before after r (2 * s + 3)

@@ -61,9 +61,6 @@ ones_masked w k e = ap (λ (x : ℕ). ones (bit_and w x)) e ∙ ap ones (and_mas
 pub ones_most : (w x : ℕ) → w < 2 ^ 64 → ones (bit_and w x) ≤ 64
 ones_most w x h = ones-le 64 (bit_and w x) (lt_of_le_of_lt (and_le_l w x) h)
 
-pub ones_fit : (w x : ℕ) → w < 2 ^ 64 → ones (bit_and w x) < 2 ^ 64
-ones_fit w x h = omega (arith, ones_most w x h)
-
 -- ---- a word in front
 
 pub bit_front : (i w : ℕ) (m : List ℕ) → i < 64 → bit i (w ∷ m) ≡ eqb (digit i w) 1

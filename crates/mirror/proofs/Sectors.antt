@@ -51,10 +51,9 @@ module _ (v : Triple) (k : Key) (volume s n i : ℕ) where
       let l : length t.local ≡ s = sizes q local in
       read_late mirror v a out e
       ∙ sym
-      (judge_passes k.bytes volume i t out
+      (judge_passes k volume i t out
       (parts_pass k (length t.local) (length t.remote) (length out) (length t.tag) q.common.key q.common.hash (ap is_size l ∙ q.common.size)
-      (sizes q remote ∙ sym l) (length_due (length out) s q.lengths ∙ sym l) (sizes q tag))
-      refl refl)
+      (sizes q remote ∙ sym l) (length_due (length out) s q.lengths ∙ sym l) (sizes q tag)))
 
   abbrev zeros : List ℕ
   zeros = replicate s 0
@@ -66,10 +65,9 @@ module _ (v : Triple) (k : Key) (volume s n i : ℕ) where
   -- what sealing a plaintext of s bytes gives
   seals : {c : Call} → Passed v a c → (P : List ℕ) → length P ≡ s → seal_call k volume i P t ≡ (0, sealed k volume i P)
   seals q P l =
-      seal_passes k.bytes volume i P t
+      seal_passes k volume i P t
       (parts_pass k (length P) (length t.local) (length t.remote) (length t.tag) q.common.key q.common.hash (ap is_size l ∙ q.common.size)
       (sizes q local ∙ sym l) (sizes q remote ∙ sym l) (sizes q tag))
-      refl refl
 
   blanks : first_of (early v a blank) ≡ none → outcome mirror v a blank ≡ (0, with_sector (seal_call k volume i zeros t).1)
   unfolding mirror

@@ -1,10 +1,10 @@
 // The calls of the C interface, which `mirror_c` exports. Each function's contract is that of the call that it names, with the answer as
-// document 01's number: 0 for whole or done, 81, 82 or 83 (hexadecimal) for doubt at local, tag or remote, or the refusal.
+// document 01's number: 0 for whole or done, 81, 82 or 83 (hexadecimal) for doubt at local, tag or remote, or the refusal. C calls a
+// function by its name, with its parameters in this order: so functions that are alike stay apart, and none takes a struct.
 #![tactic(auto)]
 
 ghost use Rattle.std.specs.Prelude.{◌≡◌};
 ghost use Rattle.mode.specs.Sealing.{key_from, triple};
-ghost use Rattle.answers.specs.Answers.{done_number, judged_number};
 ghost use Rattle.answers.specs.Rules.{args, volume_of};
 ghost use Rattle.sector.specs.Calls.{seal_call, judge_call, open_call, rebuild_call, combine_call};
 ghost use Rattle.history.specs.Volume.{mirror};
@@ -15,8 +15,9 @@ ghost use Rattle.writes.specs.Write.{write_outcome};
 ghost use Rattle.mirror.specs.Survey.{numbers, survey_result};
 ghost use Rattle.mirror.specs.Version.{release};
 
-use answers::{Done, Judged};
-use report::{Counts, Surveyed};
+use answers::{Answer, Places, Volume};
+use report::Counts;
+use sector::Location;
 
 // The release that the library is of, 0.8.0, so that a program can tell whether it is the one that the program was compiled for.
 pub fn mirror_version() -> u32
@@ -25,16 +26,11 @@ pub fn mirror_version() -> u32
     8000
 }
 
-fn done_number(d: Done) -> u32
-    ensures { result ≡ done_number d }
+// An answer as the number that C reads.
+fn number_of<A: Answer>(answer: A) -> u32
+    ensures { result ≡ A.number answer }
 {
-    answers::done_number(d) as u32
-}
-
-fn judged_number(j: Judged) -> u32
-    ensures { result ≡ judged_number j }
-{
-    answers::judged_number(j) as u32
+    u32::from(answer.number())
 }
 
 pub fn mirror_seal(
@@ -48,9 +44,15 @@ pub fn mirror_seal(
 ) -> u32
     ensures { seal_call (key_from key.now) volume address plain.now (triple local.old tag.old remote.old) ≡ (result, triple local.new tag.new remote.new) }
 {
-    done_number(sector::seal(key, volume, address, plain, local, tag, remote))
+    let at = Location {
+        key,
+        volume,
+        address,
+    };
+    number_of(sector::seal(&at, plain, local, tag, remote))
 }
 
+#[tactic(auto, using(block::proofs::Lists::bytes_all))]
 pub fn mirror_judge(
     key: &[u8],
     volume: u64,
@@ -62,7 +64,13 @@ pub fn mirror_judge(
 ) -> u32
     ensures { judge_call (key_from key.now) volume address (triple local.now tag.now remote.now) out.old ≡ (result, out.new) }
 {
-    judged_number(sector::judge(key, volume, address, local, tag, remote, out))
+    let at = Location {
+        key,
+        volume,
+        address,
+    };
+    let places = Places { local, tag, remote };
+    number_of(sector::judge(&at, places, out))
 }
 
 pub fn mirror_open(
@@ -76,7 +84,12 @@ pub fn mirror_open(
 ) -> u32
     ensures { open_call (key_from key.now) volume address side sector.now tag.now out.old ≡ (result, out.new) }
 {
-    done_number(sector::open(key, volume, address, side, sector, tag, out))
+    let at = Location {
+        key,
+        volume,
+        address,
+    };
+    number_of(sector::open(&at, side, sector, tag, out))
 }
 
 pub fn mirror_rebuild(
@@ -90,13 +103,18 @@ pub fn mirror_rebuild(
 ) -> u32
     ensures { rebuild_call (key_from key.now) volume address side sector.now tag.now out.old ≡ (result, out.new) }
 {
-    done_number(sector::rebuild(key, volume, address, side, sector, tag, out))
+    let at = Location {
+        key,
+        volume,
+        address,
+    };
+    number_of(sector::rebuild(&at, side, sector, tag, out))
 }
 
 pub fn mirror_combine(local: &[u8], remote: &[u8], out: &mut [u8]) -> u32
     ensures { combine_call local.now remote.now out.old ≡ (result, out.new) }
 {
-    done_number(sector::combine(local, remote, out))
+    number_of(sector::combine(local, remote, out))
 }
 
 pub fn mirror_blank(
@@ -112,7 +130,13 @@ pub fn mirror_blank(
 ) -> u32
     ensures { map_outcome mirror (triple local.old tags.old remote.old) (args (key_from key.now) volume s n number) W.blank map.old ≡ (result, (triple local.new tags.new remote.new, map.new)) }
 {
-    done_number(mapped::blank(key, volume, s, n, number, local, tags, remote, map))
+    let lent = Volume {
+        key,
+        number: volume,
+        size: s,
+        count: n,
+    };
+    number_of(mapped::blank(&lent, number, local, tags, remote, map))
 }
 
 pub fn mirror_first_stage(
@@ -129,7 +153,13 @@ pub fn mirror_first_stage(
 ) -> u32
     ensures { map_outcome mirror (triple local.old tags.now remote.now) (args (key_from key.now) volume s n number) (W.first plain.now) map.old ≡ (result, (triple local.new tags.now remote.now, map.new)) }
 {
-    done_number(mapped::first_stage(key, volume, s, n, number, plain, local, tags, remote, map))
+    let lent = Volume {
+        key,
+        number: volume,
+        size: s,
+        count: n,
+    };
+    number_of(mapped::first_stage(&lent, number, plain, local, tags, remote, map))
 }
 
 pub fn mirror_second_stage(
@@ -146,7 +176,13 @@ pub fn mirror_second_stage(
 ) -> u32
     ensures { map_outcome mirror (triple local.now tags.old remote.now) (args (key_from key.now) volume s n number) (W.second plain.now) map.old ≡ (result, (triple local.now tags.new remote.now, map.new)) }
 {
-    done_number(mapped::second_stage(key, volume, s, n, number, plain, local, tags, remote, map))
+    let lent = Volume {
+        key,
+        number: volume,
+        size: s,
+        count: n,
+    };
+    number_of(mapped::second_stage(&lent, number, plain, local, tags, remote, map))
 }
 
 pub fn mirror_third_stage(
@@ -163,9 +199,16 @@ pub fn mirror_third_stage(
 ) -> u32
     ensures { map_outcome mirror (triple local.now tags.now remote.old) (args (key_from key.now) volume s n number) (W.third plain.now) map.old ≡ (result, (triple local.now tags.now remote.new, map.new)) }
 {
-    done_number(mapped::third_stage(key, volume, s, n, number, plain, local, tags, remote, map))
+    let lent = Volume {
+        key,
+        number: volume,
+        size: s,
+        count: n,
+    };
+    number_of(mapped::third_stage(&lent, number, plain, local, tags, remote, map))
 }
 
+#[tactic(auto, using(block::proofs::Lists::bytes_all))]
 pub fn mirror_read(
     key: &[u8],
     volume: u64,
@@ -180,7 +223,18 @@ pub fn mirror_read(
 ) -> u32
     ensures { map_read_outcome mirror (triple local.now tags.now remote.now) (args (key_from key.now) volume s n number) out.old map.old ≡ (result, (out.new, map.new)) }
 {
-    judged_number(mapped::read(key, volume, s, n, number, local, tags, remote, map, out))
+    let lent = Volume {
+        key,
+        number: volume,
+        size: s,
+        count: n,
+    };
+    let images = Places {
+        local,
+        tag: tags,
+        remote,
+    };
+    number_of(mapped::read(&lent, number, images, map, out))
 }
 
 pub fn mirror_mend(
@@ -196,7 +250,13 @@ pub fn mirror_mend(
 ) -> u32
     ensures { map_outcome mirror (triple local.old tags.old remote.old) (args (key_from key.now) volume s n number) W.mend map.old ≡ (result, (triple local.new tags.new remote.new, map.new)) }
 {
-    judged_number(mapped::mend(key, volume, s, n, number, local, tags, remote, map))
+    let lent = Volume {
+        key,
+        number: volume,
+        size: s,
+        count: n,
+    };
+    number_of(mapped::mend(&lent, number, local, tags, remote, map))
 }
 
 // The write in one call: what each of its calls wrote has to land before the next begins, or power must not go within it.
@@ -214,9 +274,16 @@ pub fn mirror_write(
 ) -> u32
     ensures { write_outcome mirror (triple local.old tags.old remote.old) (args (key_from key.now) volume s n number) plain.now map.old ≡ (result, (triple local.new tags.new remote.new, map.new)) }
 {
-    judged_number(laptop::write(key, volume, s, n, number, plain, local, tags, remote, map))
+    let lent = Volume {
+        key,
+        number: volume,
+        size: s,
+        count: n,
+    };
+    number_of(laptop::write(&lent, number, plain, local, tags, remote, map))
 }
 
+// No From, since neither type is this crate's; and std has no conversion of a usize to a u64 that cannot fail.
 fn count_numbers(c: Counts) -> [u64; 5]
     ensures { result ≡ numbers c }
 {
@@ -230,6 +297,7 @@ fn count_numbers(c: Counts) -> [u64; 5]
 }
 
 // `counts` is given whole, doubtful, clashing, lost and the health; `list` is in repair order.
+#[tactic(auto, using(block::proofs::Lists::bytes_all, crate::proofs::Numbers::survey_refused))]
 pub fn mirror_survey(
     key: &[u8],
     volume: u64,
@@ -244,13 +312,23 @@ pub fn mirror_survey(
 ) -> u32
     ensures { survey_result (map_survey_outcome (triple local.now tags.now remote.now) (volume_of (key_from key.now) volume s n) map.now list.old) counts.old ≡ (result, (counts.new, list.new)) }
 {
-    let surveyed = mapped::survey(key, volume, s, n, local, tags, remote, map, list);
-    match surveyed {
-        Surveyed::Counted(c) => {
-            *counts = count_numbers(c);
+    let lent = Volume {
+        key,
+        number: volume,
+        size: s,
+        count: n,
+    };
+    let images = Places {
+        local,
+        tag: tags,
+        remote,
+    };
+    match mapped::survey(&lent, images, map, list) {
+        Ok(found) => {
+            *counts = count_numbers(found);
             0
         }
-        Surveyed::Refused(f) => answers::refusal_number(f) as u32,
+        Err(refusal) => u32::from(u8::from(refusal)),
     }
 }
 
@@ -258,12 +336,12 @@ pub fn mirror_survey(
 pub fn mirror_start_map(n: usize, map: &mut [u64]) -> u32
     ensures { start_outcome n map.old ≡ (result, map.new) }
 {
-    done_number(map::start(n, map))
+    number_of(map::start(n, map))
 }
 
 // `count` is given the number of suspects among n sectors.
 pub fn mirror_count_suspects(n: usize, map: &[u64], count: &mut u64) -> u32
     ensures { count_outcome n map.now count.old ≡ (result, count.new) }
 {
-    done_number(map::count_suspects(n, map, count))
+    number_of(map::count_suspects(n, map, count))
 }

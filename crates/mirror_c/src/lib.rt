@@ -1,5 +1,6 @@
 // The C interface: what C links as libmirror.a, by these names. Each function calls that of the same name of the crate `mirror`, and promises
 // what that one does, in the same words (tests/check_header compares them).
+// Functions that are alike stay apart, and none takes a struct: C calls each by its name, with its parameters in this order.
 #![tactic(auto)]
 
 ghost use Rattle.std.specs.Prelude.{◌≡◌};

@@ -4,3 +4,4 @@ pub mod TweakFacts
 pub mod Scheme
 pub mod Transforms
 pub mod Prepared
+pub mod Lent

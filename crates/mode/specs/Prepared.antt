@@ -5,7 +5,6 @@ use Rattle.block.specs.Value.{value}
 use Rattle.fips197.specs.Aes.{cipher_number}
 use Rattle.aes.specs.Columns.{round_table}
 use Rattle.hash.specs.Powers.{key_of, Powers}
-use Rattle.mode.specs.declared.Context.{Context}
 use Rattle.mode.specs.Scheme.{Scheme, dcm}
 use Rattle.mode.specs.Sealing.{Key, hash_key, round_keys}
 
@@ -22,10 +21,6 @@ pub record KeyReady (t w powers : List ℕ) (a b : Block) : Type 0 where
   pub pads : PadsReady t w b
   pub are_powers : Powers powers
   pub alpha : value a ≡ cipher_number w 0
-
--- E(0) and E(1) as the context of a number and an address has them
-abbrev pub Ready : List ℕ → List ℕ → List ℕ → Context → Type 0
-Ready t w powers ctx = KeyReady t w powers ctx.alpha ctx.beta
 
 -- ---- whose they are
 

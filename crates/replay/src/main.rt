@@ -8,23 +8,57 @@
 ghost use Rattle.std.specs.Prelude.{◌≡◌, ◌+◌, ◌≤◌, ◌<◌, ℕ, length, take, IfOk, OnErr};
 ghost use Rattle.std.specs.Io.KnownBytes.{Consumes, IsAtEnd};
 
-use std::io;
+use answers::{Answer, Places};
+use sector::Location;
 use std::io::Read;
+use std::{fmt, io};
 
-const SEAL: u8 = 0;
+// As long as a slice that a vector's call writes may be.
+const MOST_SIZE: usize = 4096;
 
-const JUDGE: u8 = 1;
+// As long as a vector may be.
+const MOST_FRAME: usize = 65536;
 
-const OPEN: u8 = 2;
+// As long as the input may be.
+const MOST_INPUT: usize = 1048576;
 
-const REBUILD: u8 = 3;
+// The call that a vector is for.
+#[derive(Clone, Copy, Debug, PartialEq, Eq)]
+enum Kind {
+    Seal,
+    Judge,
+    Open,
+    Rebuild,
+    Combine,
+    Unknown,
+}
 
-const COMBINE: u8 = 4;
+impl Kind {
+    const ALL: [Kind; 6] = [
+        Kind::Seal,
+        Kind::Judge,
+        Kind::Open,
+        Kind::Rebuild,
+        Kind::Combine,
+        Kind::Unknown,
+    ];
+}
 
-const UNKNOWN: u8 = 5;
+impl fmt::Display for Kind {
+    fn fmt<W: fmt::Write>(&self, f: &mut fmt::Formatter<W>) -> fmt::Result {
+        match self {
+            Kind::Seal => write!(f, "seal"),
+            Kind::Judge => write!(f, "judge"),
+            Kind::Open => write!(f, "open"),
+            Kind::Rebuild => write!(f, "rebuild"),
+            Kind::Combine => write!(f, "combine"),
+            Kind::Unknown => write!(f, "unknown"),
+        }
+    }
+}
 
 // How many vectors of one kind agreed, and how many did not.
-#[derive(Clone, Copy)]
+#[derive(Clone, Copy, Debug, PartialEq, Eq, Default)]
 struct Tally {
     agreed: usize,
     differ: usize,
@@ -32,313 +66,219 @@ struct Tally {
 
 // ---- the fields of a frame
 
-fn wide(x: u8) -> usize
-    ensures { result < 256 }
-{
-    x as usize
-}
-
-// The end of the field that starts at `at`, and 0 where no whole field does.
-fn after(frame: &[u8], at: usize) -> usize
-    requires { at ≤ length frame.now }
-    ensures { result ≤ length frame.now }
-{
-    if at == 0 {
-        return 0;
+// The field that the bytes begin with, and what stands behind it; none where no whole field does.
+fn first_field(bytes: &[u8]) -> Option<(&[u8], &[u8])> {
+    let [high, low, rest @ ..] = bytes else {
+        return None;
+    };
+    let size = usize::from(u16::from_be_bytes([*high, *low]));
+    if rest.len() < size {
+        return None;
     }
-    if frame.len() - at < 2 {
-        return 0;
-    }
-    let size = wide(frame[at]) * 256 + wide(frame[at + 1]);
-    let from = at + 2;
-    if frame.len() - from < size {
-        return 0;
-    }
-    from + size
-}
-
-// The start of field n, or 0: field 0 stands behind the call's number.
-fn start(frame: &[u8], n: usize) -> usize
-    ensures { result ≤ length frame.now }
-{
-    if frame.len() == 0 {
-        return 0;
-    }
-    let mut at: usize = 1;
-    let mut k: usize = 0;
-    while k < n {
-        at = after(frame, at);
-        k += 1;
-    }
-    at
-}
-
-// Whether a frame has n whole fields and no more.
-fn has_fields(frame: &[u8], n: usize) -> bool {
-    let end = start(frame, n);
-    if end == 0 {
-        return false;
-    }
-    end == frame.len()
-}
-
-// The bytes of field n, none where there is no such field.
-fn field(frame: &[u8], n: usize) -> &[u8] {
-    let at = start(frame, n);
-    let end = after(frame, at);
-    if at < end {
-        if 2 <= end - at {
-            let from = at + 2;
-            return &frame[from..end];
-        }
-    }
-    &frame[..0]
+    Some(rest.split_at(size))
 }
 
 // Bytes as a number, high first: the last eight count.
-fn number(s: &[u8]) -> u64 {
-    let mut x: u64 = 0;
-    let mut i: usize = 0;
-    while i < s.len() {
-        x = (x << 8) | (wide(s[i]) as u64);
-        i += 1;
+fn number(bytes: &[u8]) -> u64 {
+    bytes.iter().fold(0, |n, b| (n << 8) | u64::from(*b))
+}
+
+// Where a sector is: `at` has the volume's number before the address of eight bytes, or the address alone.
+fn location<'a>(key: &'a [u8], at: &[u8]) -> Location<'a> {
+    let (volume, address) = at.split_at(at.len().saturating_sub(8));
+    Location {
+        key,
+        volume: number(volume),
+        address: number(address),
     }
-    x
 }
 
-// Field 1 has the number and the address, or the address alone: its last eight bytes.
-fn address(frame: &[u8]) -> u64 {
-    number(field(frame, 1))
+// The side's number, of which the low 32 bits count.
+fn side(bytes: &[u8]) -> u32 {
+    (number(bytes) % 0x1_0000_0000) as u32
 }
 
-// The bytes before the last eight, none where there are no more.
-fn before_eight(s: &[u8]) -> &[u8] {
-    if 8 <= s.len() {
-        let end = s.len() - 8;
-        return &s[0..end];
+#[tactic(auto, using(block::proofs::Lists::bytes_all))]
+fn places<'a>(local: &'a [u8], tag: &'a [u8], remote: &'a [u8]) -> Places<'a> {
+    Places { local, tag, remote }
+}
+
+// The fields of a frame that are not taken yet.
+#[derive(Clone, Copy)]
+struct Fields<'a> {
+    rest: &'a [u8],
+}
+
+// The fields that come last where a call writes one slice: the slice before, the answer, and the slice after.
+#[derive(Clone, Copy)]
+struct Due<'a> {
+    before: &'a [u8],
+    answer: &'a [u8],
+    after: &'a [u8],
+}
+
+impl<'a> Fields<'a> {
+    // They stand behind the call's number.
+    fn of(frame: &'a [u8]) -> Option<Fields<'a>> {
+        let [_, rest @ ..] = frame else {
+            return None;
+        };
+        Some(Fields { rest })
     }
-    &s[..0]
-}
 
-// The volume's number, which stands before the address; 0 where nothing does.
-fn volume(frame: &[u8]) -> u64 {
-    number(before_eight(field(frame, 1)))
-}
+    fn take(&mut self) -> Option<&'a [u8]> {
+        let (field, rest) = first_field(self.rest)?;
+        self.rest = rest;
+        Some(field)
+    }
 
-fn side(frame: &[u8]) -> u32 {
-    (number(field(frame, 2)) % 0x1_0000_0000) as u32
-}
+    fn location(&mut self) -> Option<Location<'a>> {
+        let key = self.take()?;
+        Some(location(key, self.take()?))
+    }
 
-// Whether field n is the answer's number, and no more.
-fn is_answer(frame: &[u8], n: usize, answer: u8) -> bool {
-    let due = field(frame, n);
-    if due.len() == 1 {
-        due[0] == answer
-    } else {
-        false
+    // What opening and rebuilding take of one side: its number, its sector and the tag.
+    fn opening(&mut self) -> Option<(u32, &'a [u8], &'a [u8])> {
+        Some((side(self.take()?), self.take()?, self.take()?))
+    }
+
+    fn due(&mut self) -> Option<Due<'a>> {
+        let due = Due {
+            before: self.take()?,
+            answer: self.take()?,
+            after: self.take()?,
+        };
+        self.end()?;
+        Some(due)
+    }
+
+    fn end(&self) -> Option<()> {
+        self.rest.is_empty().then_some(())
     }
 }
 
 // ---- the calls
 
-// Makes a lent slice as it was before. False where its length is another.
-fn fill(before: &[u8], out: &mut [u8]) -> bool {
-    if before.len() != out.len() {
-        return false;
+// A slice that a call writes, as it was before. None where it is too long.
+fn filled<'a>(room: &'a mut [u8; MOST_SIZE], before: &[u8]) -> Option<&'a mut [u8]> {
+    if MOST_SIZE < before.len() {
+        return None;
     }
-    block::copy(before, out);
-    true
+    let slice = &mut room[..before.len()];
+    slice.copy_from_slice(before);
+    Some(slice)
 }
 
-fn seal(frame: &[u8], local: &mut [u8], remote: &mut [u8], tag: &mut [u8]) -> u8 {
-    answers::done_number(sector::seal(
-        field(frame, 0),
-        volume(frame),
-        address(frame),
-        field(frame, 2),
-        local,
-        tag,
-        remote,
-    ))
+// Whether a field is an answer's number, and no more.
+fn is_answer(field: &[u8], answer: impl Answer) -> bool {
+    field == [answer.number()].as_slice()
 }
 
-fn judge(frame: &[u8], out: &mut [u8]) -> u8 {
-    answers::judged_number(sector::judge(
-        field(frame, 0),
-        volume(frame),
-        address(frame),
-        field(frame, 2),
-        field(frame, 3),
-        field(frame, 4),
-        out,
-    ))
+// Whether a call agrees; none where the frame has other fields.
+fn seal_agrees(frame: &[u8]) -> Option<bool> {
+    let mut fields = Fields::of(frame)?;
+    let at = fields.location()?;
+    let plain = fields.take()?;
+    let mut rooms = ([0; MOST_SIZE], [0; MOST_SIZE], [0; MOST_SIZE]);
+    let local = filled(&mut rooms.0, fields.take()?)?;
+    let remote = filled(&mut rooms.1, fields.take()?)?;
+    let tag = filled(&mut rooms.2, fields.take()?)?;
+    let answer = fields.take()?;
+    let same = is_answer(answer, sector::seal(&at, plain, local, tag, remote));
+    let local_after = fields.take()?;
+    let remote_after = fields.take()?;
+    let tag_after = fields.take()?;
+    fields.end()?;
+    Some(same && &*local == local_after && &*remote == remote_after && &*tag == tag_after)
 }
 
-fn open(frame: &[u8], out: &mut [u8]) -> u8 {
-    answers::done_number(sector::open(
-        field(frame, 0),
-        volume(frame),
-        address(frame),
-        side(frame),
-        field(frame, 3),
-        field(frame, 4),
-        out,
-    ))
-}
-
-fn rebuild(frame: &[u8], out: &mut [u8]) -> u8 {
-    answers::done_number(sector::rebuild(
-        field(frame, 0),
-        volume(frame),
-        address(frame),
-        side(frame),
-        field(frame, 3),
-        field(frame, 4),
-        out,
-    ))
-}
-
-fn combine(frame: &[u8], out: &mut [u8]) -> u8 {
-    answers::done_number(sector::combine(field(frame, 0), field(frame, 1), out))
-}
-
-// The answer's number of a call that writes one slice.
-fn answer(kind: u8, frame: &[u8], out: &mut [u8]) -> u8 {
-    if kind == JUDGE {
-        return judge(frame, out);
-    }
-    if kind == OPEN {
-        return open(frame, out);
-    }
-    if kind == REBUILD {
-        return rebuild(frame, out);
-    }
-    combine(frame, out)
-}
-
-// Whether a call that writes one slice agrees. Field n is the slice before, the next the answer, the last the slice after.
-fn agrees_in(kind: u8, frame: &[u8], n: usize, out: &mut [u8]) -> bool
-    requires { n < 10 }
+// The same of a call that writes one slice.
+fn agrees<F: FnOnce(&mut [u8]) -> u8>(due: Due, call: F) -> Option<bool>
+    requires { F.IsAlwaysCallable call }
 {
-    if fill(field(frame, n), out) {
-        if is_answer(frame, n + 1, answer(kind, frame, out)) {
-            return block::same(&out[..], field(frame, n + 2));
-        }
-    }
-    false
+    let mut room = [0; MOST_SIZE];
+    let out = filled(&mut room, due.before)?;
+    let answer = call(out);
+    Some(due.answer == [answer].as_slice() && &*out == due.after)
 }
 
-fn agrees(kind: u8, frame: &[u8], n: usize) -> bool
-    requires { n < 10 }
-{
-    if has_fields(frame, n + 3) {
-        let before = field(frame, n);
-        let size = before.len();
-        if size <= 4096 {
-            let mut out = [0u8; 4096];
-            return agrees_in(kind, frame, n, &mut out[..size]);
-        }
-    }
-    false
+fn judge_agrees(frame: &[u8]) -> Option<bool> {
+    let mut fields = Fields::of(frame)?;
+    let at = fields.location()?;
+    let places = places(fields.take()?, fields.take()?, fields.take()?);
+    agrees(
+        fields.due()?,
+        |out: &mut [u8]| sector::judge(&at, places, out).number(),
+    )
 }
 
-// Makes the three slices that sealing writes as they were before.
-fn fill_three(frame: &[u8], local: &mut [u8], remote: &mut [u8], tag: &mut [u8]) -> bool {
-    if fill(field(frame, 3), local) {
-        if fill(field(frame, 4), remote) {
-            return fill(field(frame, 5), tag);
-        }
-    }
-    false
+fn open_agrees(frame: &[u8]) -> Option<bool> {
+    let mut fields = Fields::of(frame)?;
+    let at = fields.location()?;
+    let (side, x, tag) = fields.opening()?;
+    agrees(
+        fields.due()?,
+        |out: &mut [u8]| sector::open(&at, side, x, tag, out).number(),
+    )
 }
 
-// Whether the three slices that sealing writes are as they should be after.
-fn same_three(frame: &[u8], local: &[u8], remote: &[u8], tag: &[u8]) -> bool {
-    if block::same(local, field(frame, 7)) {
-        if block::same(remote, field(frame, 8)) {
-            return block::same(tag, field(frame, 9));
-        }
-    }
-    false
+// Rebuild has the fields of open: a closure of five arguments for the one name that differs is no plainer.
+fn rebuild_agrees(frame: &[u8]) -> Option<bool> {
+    let mut fields = Fields::of(frame)?;
+    let at = fields.location()?;
+    let (side, x, tag) = fields.opening()?;
+    agrees(
+        fields.due()?,
+        |out: &mut [u8]| sector::rebuild(&at, side, x, tag, out).number(),
+    )
 }
 
-fn seal_agrees_in(frame: &[u8], local: &mut [u8], remote: &mut [u8], tag: &mut [u8]) -> bool {
-    if fill_three(frame, local, remote, tag) {
-        if is_answer(frame, 6, seal(frame, local, remote, tag)) {
-            return same_three(frame, &local[..], &remote[..], &tag[..]);
-        }
-    }
-    false
+fn combine_agrees(frame: &[u8]) -> Option<bool> {
+    let mut fields = Fields::of(frame)?;
+    let local = fields.take()?;
+    let remote = fields.take()?;
+    agrees(
+        fields.due()?,
+        |out: &mut [u8]| sector::combine(local, remote, out).number(),
+    )
 }
 
-// Whether a sealing whose three slices have these lengths agrees.
-fn seal_agrees_at(frame: &[u8], l: usize, r: usize, g: usize) -> bool {
-    if l <= 4096 {
-        if r <= 4096 {
-            if g <= 4096 {
-                let mut local = [0u8; 4096];
-                let mut remote = [0u8; 4096];
-                let mut tag = [0u8; 4096];
-                return seal_agrees_in(frame, &mut local[..l], &mut remote[..r], &mut tag[..g]);
-            }
-        }
-    }
-    false
-}
-
-fn seal_agrees(frame: &[u8]) -> bool {
-    if has_fields(frame, 10) {
-        let local = field(frame, 3);
-        let remote = field(frame, 4);
-        let tag = field(frame, 5);
-        return seal_agrees_at(frame, local.len(), remote.len(), tag.len());
-    }
-    false
-}
-
-fn frame_agrees(kind: u8, frame: &[u8]) -> bool {
-    if kind == SEAL {
-        return seal_agrees(frame);
-    }
-    if kind == COMBINE {
-        return agrees(kind, frame, 2);
-    }
-    if kind == UNKNOWN {
-        return false;
-    }
-    agrees(kind, frame, 5)
+fn frame_agrees(kind: Kind, frame: &[u8]) -> bool {
+    let agrees = match kind {
+        Kind::Seal => seal_agrees(frame),
+        Kind::Judge => judge_agrees(frame),
+        Kind::Open => open_agrees(frame),
+        Kind::Rebuild => rebuild_agrees(frame),
+        Kind::Combine => combine_agrees(frame),
+        Kind::Unknown => None,
+    };
+    agrees.unwrap_or(false)
 }
 
 // ---- lines
 
-fn line_agrees_in(kind: u8, line: &[u8], frame: &mut [u8]) -> bool {
-    if text::decode(line, frame) {
-        return frame_agrees(kind, &frame[..]);
-    }
-    false
-}
-
-fn line_agrees(kind: u8, line: &[u8]) -> bool {
+fn line_agrees(kind: Kind, line: &[u8]) -> bool {
     let size = line.len() / 2;
-    if size <= 65536 {
-        let mut frame = [0u8; 65536];
-        return line_agrees_in(kind, line, &mut frame[..size]);
+    if MOST_FRAME < size {
+        return false;
     }
-    false
+    let mut room = [0; MOST_FRAME];
+    let frame = &mut room[..size];
+    text::decode(line, frame) && frame_agrees(kind, frame)
 }
 
-// The call that a line is for.
-fn kind_of(line: &[u8]) -> u8 {
-    if line.len() < 2 {
-        return UNKNOWN;
+fn kind_of(line: &[u8]) -> Kind {
+    let [b'0', digit, ..] = line else {
+        return Kind::Unknown;
+    };
+    match text::digit_value(*digit) {
+        Some(0) => Kind::Seal,
+        Some(1) => Kind::Judge,
+        Some(2) => Kind::Open,
+        Some(3) => Kind::Rebuild,
+        Some(4) => Kind::Combine,
+        _ => Kind::Unknown,
     }
-    if line[0] == b'0' {
-        let kind = text::digit_value(line[1]);
-        if kind < UNKNOWN {
-            return kind;
-        }
-    }
-    UNKNOWN
 }
 
 // The start of the line after the one that ends at `end`.
@@ -346,58 +286,31 @@ fn line_after(input: &[u8], at: usize, end: usize) -> usize
     requires { (at ≤ end) × (end ≤ length input.now) × (at < length input.now) }
     ensures { (at < result) × (result ≤ length input.now) }
 {
-    if end < input.len() {
-        return end + 1;
-    }
-    end
+    if end < input.len() { end + 1 } else { end }
 }
 
 // ---- the report
 
-fn print_name(rt: &impl Print, kind: u8) -> io::Result<()> {
-    match kind {
-        SEAL => print!(rt; "seal"),
-        JUDGE => print!(rt; "judge"),
-        OPEN => print!(rt; "open"),
-        REBUILD => print!(rt; "rebuild"),
-        COMBINE => print!(rt; "combine"),
-        UNKNOWN => print!(rt; "unknown"),
-        _ => Ok(()),
-    }
-}
-
-fn print_difference(rt: &impl Print, kind: u8, n: usize) -> io::Result<()> {
-    print_name(rt, kind)?;
-    println!(rt; " differs in line {n}")
-}
-
 // Counts a line if it is of this kind, and says where it differs. It is the n-th line.
-fn counted(rt: &impl Print, tally: Tally, kind: u8, line: &[u8], n: usize) -> io::Result<Tally>
+fn counted(rt: &impl Print, tally: Tally, kind: Kind, line: &[u8], n: usize) -> io::Result<Tally>
     requires { tally.agreed + tally.differ < n }
     ensures { IfOk result (λ counted. counted.agreed + counted.differ ≤ n) }
 {
-    if kind_of(line) != kind {
-        return Ok(tally);
+    let mut counted = tally;
+    if kind_of(line) == kind {
+        if line_agrees(kind, line) {
+            counted.agreed += 1;
+        } else {
+            println!(rt; "{kind} differs in line {n}")?;
+            counted.differ += 1;
+        }
     }
-    if line_agrees(kind, line) {
-        return Ok(Tally {
-            agreed: tally.agreed + 1,
-            differ: tally.differ,
-        });
-    }
-    print_difference(rt, kind, n)?;
-    Ok(Tally {
-        agreed: tally.agreed,
-        differ: tally.differ + 1,
-    })
+    Ok(counted)
 }
 
-// Replays the lines of one kind.
-fn replay(rt: &impl Print, input: &[u8], kind: u8) -> io::Result<Tally> {
-    let mut tally = Tally {
-        agreed: 0,
-        differ: 0,
-    };
+// Replays the lines of one kind. A `for` over `split_inclusive` was tried: the check takes no invariant there, and the counts need one.
+fn replay(rt: &impl Print, input: &[u8], kind: Kind) -> io::Result<Tally> {
+    let mut tally = Tally::default();
     let mut at: usize = 0;
     let mut n: usize = 0;
     while at < input.len() {
@@ -409,39 +322,36 @@ fn replay(rt: &impl Print, input: &[u8], kind: u8) -> io::Result<Tally> {
     Ok(tally)
 }
 
-fn report(rt: &impl Print, input: &[u8], kind: u8) -> io::Result<()> {
-    let tally = replay(rt, input, kind)?;
-    print_name(rt, kind)?;
-    let agreed = tally.agreed;
-    let differ = tally.differ;
-    println!(rt; " {agreed} agreed {differ} differ")
+fn report(rt: &impl Print, input: &[u8], kind: Kind) -> io::Result<()> {
+    let Tally { agreed, differ } = replay(rt, input, kind)?;
+    println!(rt; "{kind} {agreed} agreed {differ} differ")
 }
 
 fn report_all(rt: &impl Print, input: &[u8]) -> io::Result<()> {
-    if input.len() == 1048576 {
+    if input.len() == MOST_INPUT {
         println!(rt; "the input is too long")?;
     }
-    report(rt, input, SEAL)?;
-    report(rt, input, JUDGE)?;
-    report(rt, input, OPEN)?;
-    report(rt, input, REBUILD)?;
-    report(rt, input, COMBINE)?;
-    report(rt, input, UNKNOWN)
+    for kind in Kind::ALL {
+        report(rt, input, kind)?;
+    }
+    Ok(())
 }
 
-// Room for the whole input.
-fn room() -> [u8; 1048576]
+// Room for the whole input: of a function of its own, since no proof is found where so many zeros are seen.
+fn room() -> [u8; MOST_INPUT]
     ensures { 1048576 ≡ length result }
 {
-    [0; 1048576]
+    [0; MOST_INPUT]
 }
 
-// Reads until the room is full or the input ends, and gives how many bytes that is.
+// Reads until the room is full or the input ends, and gives how many bytes that is. std's `read_exact` says nothing of what it read before
+// it failed.
 fn read_full<R: Read>(reader: &mut R, room: &mut [u8]) -> io::Result<usize>
     ensures within { IfOk result (λ n. n ≤ length room.new) }
     ensures bytes { IfOk result (λ n. Consumes (R.remaining reader.old) (R.remaining reader.new) (take n room.new)) }
     ensures end { IfOk result (λ n. n < length room.new → IsAtEnd (R.remaining reader.new)) }
-    ensures part { OnErr result ((n : ℕ) × (n ≤ length room.new) × Consumes (R.remaining reader.old) (R.remaining reader.new) (take n room.new)) }
+    ensures part { OnErr result ((n : ℕ) × (n ≤ length room.new)
+        × Consumes (R.remaining reader.old) (R.remaining reader.new) (take n room.new)) }
 {
     let mut size = 0;
     while size < room.len() {
@@ -455,7 +365,7 @@ fn read_full<R: Read>(reader: &mut R, room: &mut [u8]) -> io::Result<usize>
 }
 
 fn main(rt: HostRuntime) -> io::Result<()> {
-    let mut space = room();
-    let size = read_full(&mut rt.reader(), &mut space)?;
-    report_all(&rt, &space[..size])
+    let mut room = room();
+    let size = read_full(&mut rt.reader(), &mut room)?;
+    report_all(&rt, &room[..size])
 }

@@ -1,17 +1,16 @@
 -- The survey of a volume (document 01, "A volume", with change requests S-1 and S-2): what it refuses, counts and lists. Assumes nothing:
 -- these are definitions.
 -- `SurveyFacts`, at the end, states what is proved of them, as `survey_facts`.
-use Rattle.std.specs.Prelude.{◌≡◌, ◌⊎◌, ◌↔◌, Bool, true, false, cond, ℕ, zero, suc, ◌+◌, ◌*◌, ◌/◌, ◌<◌, ◌≤◌, length, get_or, drop}
+use Rattle.std.specs.Prelude.{◌≡◌, ◌⊎◌, ◌↔◌, Bool, true, false, cond, ℕ, zero, suc, ◌+◌, ◌*◌, ◌/◌, ◌<◌, ◌≤◌, length, get_or, drop, Result, Ok, Err}
 use mathlib.Core.List.{List, [], ◌∷◌, ◌++◌, Memᴰ}
 use Rattle.std.proofs.Math.Option.{Option, none, some}
 use Rattle.mode.specs.Sealing.{Triple}
 use Rattle.mode.specs.Scheme.{Place, is_key, is_size, Scheme}
+use Rattle.answers.specs.declared.Refusal.{Refusal}
 use Rattle.answers.specs.Answers.{refusal_number}
 use Rattle.answers.specs.Rules.{first_of, settle_by, Volume, is_shape, is_zero_hash, survey_rules}
 use Rattle.verdict.specs.Verdict.{Verdict, whole, doubtful, lost, clashing, Means, judge}
 use Rattle.report.specs.declared.Counts.{Counts}
-use Rattle.report.specs.declared.Surveyed.{Surveyed}
-use Rattle.report.specs.declared.Surveyed.TheVariants.{Counted, Refused}
 use Rattle.history.specs.Answers.{is_whole, is_doubtful, is_clashing, is_lost}
 use Rattle.history.specs.HistoryFrom.{AnyBytes}
 use Rattle.history.specs.Machine.{Held, gone, kept, start}
@@ -64,9 +63,9 @@ pub data Report : Type 0 where
   refused : ℕ → Report
   counted : Counts → Report
 
-abbrev pub report_of : Surveyed → Report
-report_of (Counted c) = counted c
-report_of (Refused r) = refused (refusal_number r)
+abbrev pub report_of : Result Counts Refusal → Report
+report_of (Ok c) = counted c
+report_of (Err r) = refused (refusal_number r)
 
 -- the refusal of a survey of the images v with a list of this length, if it is refused
 abbrev pub survey_refusal : Triple → Volume → ℕ → Option ℕ

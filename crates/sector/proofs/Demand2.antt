@@ -80,9 +80,8 @@ module _ (k : Key) (volume s : ℕ) (ek : is_key k ≡ true) (es : is_size s ≡
   seals : is_zero_hash k ≡ false → (address : ℕ) (P : List ℕ) (out : Triple) → Plain s P → ((p : Place) → length (on out p) ≡ wide s p) → seal_call k volume address P out ≡ (0, sealed k volume address P)
   seals eh address P out plain long =
       let e = plain.long in
-      seal_passes k.bytes volume address P out
+      seal_passes k volume address P out
       (parts_pass k (length P) (length out.local) (length out.remote) (length out.tag) ek eh (ap is_size e ∙ es) (long local ∙ sym e) (long remote ∙ sym e) (long tag))
-      refl refl
 
   -- ---- judge
 
@@ -90,9 +89,8 @@ module _ (k : Key) (volume s : ℕ) (ek : is_key k ≡ true) (es : is_size s ≡
     judge_is : judge_call k volume address t out ≡ verdict_outcome (judge S (tweak volume address) t) out
     judge_is =
         let e = (σ.places local).long in
-        judge_passes k.bytes volume address t out
+        judge_passes k volume address t out
         (parts_pass k (length t.local) (length t.remote) (length out) (length t.tag) ek eh (ap is_size e ∙ es) ((σ.places remote).long ∙ sym e) (size ∙ sym e) (σ.places tag).long)
-        refl refl
 
     judged : (w : Verdict) → (judge_call k volume address t out ≡ verdict_outcome w out) ↔ Means s S (tweak volume address) t w
     judged w =
@@ -189,7 +187,7 @@ module _ (k : Key) (volume s : ℕ) (ek : is_key k ≡ true) (es : is_size s ≡
         let e = (long local).long in
         combine_passes t.local t.remote out
         (pair_pass (length t.local) (length t.remote) (length out) (ap is_size e ∙ es) ((long remote).long ∙ sym e) (size ∙ sym e))
-        refl (sym (lawful.sum (tweak volume address) P plain))
+        ∙ ap (λ (Q : List ℕ). (0, Q)) (lawful.sum (tweak volume address) P plain)
 
     -- under a key that is accepted
     module _ (eh : is_zero_hash k ≡ false) where

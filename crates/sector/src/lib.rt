@@ -1,149 +1,129 @@
 // The sealed sector (document 01): seal, judge, open, rebuild and combine. Each call takes any input and checks it for itself.
+//
+// Each call prepares its key in the same three lines, since what is lent on points into them. That the key is one stays a clause of what
+// prepares it, as `mode::prepare` has it: a type for a checked key would stand beside `Location`, which no check has passed.
 #![tactic(auto)]
 
 ghost use Rattle.std.specs.Prelude.{◌≡◌, true, length};
 ghost use Rattle.block.specs.Value.{value};
-ghost use Rattle.mode.specs.Prepared.{Ready, scheme_of};
+ghost use Rattle.mode.specs.Lent.{scheme_lent};
 ghost use Rattle.mode.specs.Scheme.{is_key, scheme};
 ghost use Rattle.mode.specs.Sealing.{tweak, sealed, key_from, triple};
 ghost use Rattle.answers.specs.Answers.{done_number, judged_number};
+ghost use Rattle.answers.specs.Lent.{triple_of};
 ghost use Rattle.answers.specs.Passing.{Sizes};
-ghost use Rattle.verdict.specs.Judging.{side_named, sealing_of, verdict_outcome};
+ghost use Rattle.verdict.specs.Judging.{side_named, sealing_of, judged_by};
 ghost use Rattle.verdict.specs.Verdict.{other_side};
-ghost use Rattle.verdict.specs.Verdict as W;
 ghost use Rattle.sector.specs.Calls.{seal_call, judge_call, open_call, rebuild_call, combine_call};
 ghost use Rattle.sector.specs.Opening.{opened_as, open_as};
 
-use aes::Table;
-use answers::{Done, Judged, Refusal};
-use mode::{Context, Direction};
-use verdict::Side;
+use answers::{Found, Places, Refusal, Side};
+use block::Block;
+use mode::{Direction, Keyed};
+use verdict::Part;
 
-fn judge_checked(
-    key: &[u8],
-    volume: u64,
-    address: u64,
-    local: &[u8],
-    tag: &[u8],
-    remote: &[u8],
-    out: &mut [u8],
-) -> Judged
-    requires { (is_key (key_from key.now) ≡ true) × Sizes (length local.now) (length remote.now) (length out.old) (length tag.now) }
-    ensures { verdict_outcome (W.judge (scheme (key_from key.now)) (tweak volume address) (triple local.now tag.now remote.now)) out.old ≡ (judged_number result, out.new) }
+// What a sector is sealed under: the key, the volume's number and the address. It has no Debug, so that no key is printed.
+#[derive(Clone, Copy)]
+pub struct Location<'k> {
+    pub key: &'k [u8],
+    pub volume: u64,
+    pub address: u64,
+}
+
+fn judge_checked(at: &Location, part: &Part, out: &mut [u8]) -> Result<Found, Refusal>
+    requires { (is_key (key_from at.now.key.now) ≡ true) × (length out.old ≡ length part.now.places.local.now) }
+    ensures { judged_by (scheme (key_from at.now.key.now)) (tweak at.now.volume at.now.address) (triple_of part.now.places) out.old
+        ≡ (judged_number result, out.new) }
 {
-    let t = aes::table();
-    let k = mode::prepare(&t, key);
-    let ctx = mode::context_at(k.masks, volume, address);
-    let s = local.len();
+    let table = aes::table();
+    let prepared = mode::prepare(&table, at.key);
+    let tweak = mode::tweak_at(at.volume, at.address);
+    let size = out.len();
     let mut sum = [0u8; 4096];
     let mut scratch = [0u8; 4096];
     verdict::judge_in(
-        &t,
-        &k.words,
-        &k.powers,
-        ctx,
-        local,
-        tag,
-        remote,
+        &prepared.lend(&table),
+        tweak,
+        part,
         out,
-        &mut sum[..s],
-        &mut scratch[..s],
+        &mut sum[..size],
+        &mut scratch[..size],
     )
 }
 
 // Judges a sector: gives the plaintext with whole or the doubtful place.
-pub fn judge(
-    key: &[u8],
-    volume: u64,
-    address: u64,
-    local: &[u8],
-    tag: &[u8],
-    remote: &[u8],
-    out: &mut [u8],
-) -> Judged
-    ensures { judge_call (key_from key.now) volume address (triple local.now tag.now remote.now) out.old ≡ (judged_number result, out.new) }
+#[tactic(auto, unfolding(crate::specs::Calls::judge_call), using(answers::proofs::Passing::parts_passed))]
+pub fn judge(at: &Location, places: Places, out: &mut [u8]) -> Result<Found, Refusal>
+    ensures { judge_call (key_from at.now.key.now) at.now.volume at.now.address (triple_of places.entry) out.old
+        ≡ (judged_number result, out.new) }
 {
-    let checked = answers::check_parts(key, local.len(), remote.len(), out.len(), tag.len());
-    match checked {
-        Done::Done => judge_checked(key, volume, address, local, tag, remote, out),
-        Done::Refused(r) => Judged::Refused(r),
-    }
+    answers::check_parts(
+        at.key,
+        places.local.len(),
+        places.remote.len(),
+        out.len(),
+        places.tag.len(),
+    )?;
+    let part = Part { places };
+    judge_checked(at, &part, out)
 }
 
 // Seals the plaintext p with a prepared key.
-fn seal_in<'k>(
-    t: &Table,
-    w: &'k [u32],
-    powers: &'k [u64; 18],
-    ctx: Context,
+fn seal_in(
+    keyed: &Keyed,
+    tweak: Block,
     p: &[u8],
     local: &mut [u8],
     tag: &mut [u8],
     remote: &mut [u8],
 )
-    requires { Ready t.now w.now powers.now ctx × Sizes (length p.now) (length local.old) (length remote.old) (length tag.old) }
-    ensures { triple local.new tag.new remote.new ≡ (scheme_of w.now powers.now).sealed (value ctx.tweak) p.now }
+    requires { Sizes (length p.now) (length local.old) (length remote.old) (length tag.old) }
+    ensures { triple local.new tag.new remote.new ≡ (scheme_lent keyed.now).sealed (value tweak) p.now }
 {
-    let g = mode::tag_block(t, w, powers, ctx, p);
-    mode::seal_sides(t, w, ctx.beta, g, p, local, remote);
-    block::store(tag, 0, g);
+    let sealed_tag = mode::tag_block(keyed, tweak, p);
+    mode::seal_sides(&keyed.pads, sealed_tag, p, local, remote);
+    sealed_tag.store(tag, 0);
 }
 
-fn seal_checked(
-    key: &[u8],
-    volume: u64,
-    address: u64,
-    p: &[u8],
-    local: &mut [u8],
-    tag: &mut [u8],
-    remote: &mut [u8],
-)
-    requires { (is_key (key_from key.now) ≡ true) × Sizes (length p.now) (length local.old) (length remote.old) (length tag.old) }
-    ensures { triple local.new tag.new remote.new ≡ sealed (key_from key.now) volume address p.now }
+fn seal_checked(at: &Location, p: &[u8], local: &mut [u8], tag: &mut [u8], remote: &mut [u8])
+    requires { (is_key (key_from at.now.key.now) ≡ true) × Sizes (length p.now) (length local.old) (length remote.old) (length tag.old) }
+    ensures { triple local.new tag.new remote.new ≡ sealed (key_from at.now.key.now) at.now.volume at.now.address p.now }
 {
-    let t = aes::table();
-    let k = mode::prepare(&t, key);
-    let ctx = mode::context_at(k.masks, volume, address);
-    seal_in(&t, &k.words, &k.powers, ctx, p, local, tag, remote);
+    let table = aes::table();
+    let prepared = mode::prepare(&table, at.key);
+    let tweak = mode::tweak_at(at.volume, at.address);
+    seal_in(&prepared.lend(&table), tweak, p, local, tag, remote);
 }
 
 // Seals the plaintext p: writes the local sector, the tag and the remote sector.
+// The outputs stay three slices: a struct of three `&mut` is no plainer, since the clause would read each as a part of what it leaves.
+#[tactic(auto, unfolding(crate::specs::Calls::seal_call), using(answers::proofs::Passing::parts_passed))]
 pub fn seal(
-    key: &[u8],
-    volume: u64,
-    address: u64,
+    at: &Location,
     p: &[u8],
     local: &mut [u8],
     tag: &mut [u8],
     remote: &mut [u8],
-) -> Done
-    ensures { seal_call (key_from key.now) volume address p.now (triple local.old tag.old remote.old) ≡ (done_number result, triple local.new tag.new remote.new) }
+) -> Result<(), Refusal>
+    ensures { seal_call (key_from at.now.key.now) at.now.volume at.now.address p.now (triple local.old tag.old remote.old)
+        ≡ (done_number result, triple local.new tag.new remote.new) }
 {
-    let checked = answers::check_parts(key, p.len(), local.len(), remote.len(), tag.len());
-    match checked {
-        Done::Done => {
-            seal_checked(key, volume, address, p, local, tag, remote);
-            Done::Done
-        }
-        Done::Refused(refusal) => Done::Refused(refusal),
-    }
+    answers::check_parts(at.key, p.len(), local.len(), remote.len(), tag.len())?;
+    seal_checked(at, p, local, tag, remote);
+    Ok(())
 }
 
 // Gives local ⊕ remote, which needs no key.
-pub fn combine(local: &[u8], remote: &[u8], out: &mut [u8]) -> Done
+#[tactic(auto, unfolding(crate::specs::Calls::combine_call), using(answers::proofs::Passing::pair_passed))]
+pub fn combine(local: &[u8], remote: &[u8], out: &mut [u8]) -> Result<(), Refusal>
     ensures { combine_call local.now remote.now out.old ≡ (done_number result, out.new) }
 {
-    let checked = answers::check_pair(local.len(), remote.len(), out.len());
-    match checked {
-        Done::Done => {
-            block::xor_bytes(local, remote, out);
-            Done::Done
-        }
-        Done::Refused(r) => Done::Refused(r),
-    }
+    answers::check_pair(local.len(), remote.len(), out.len())?;
+    block::xor_bytes(local, remote, out);
+    Ok(())
 }
 
-// How the side opposite to this one is sealed.
+// How the side opposite to this one is sealed. It is no method, since `Side` is another crate's.
 fn sealing_opposite(side: Side) -> Direction
     ensures { result ≡ sealing_of (other_side (side_named side)) }
 {
@@ -154,131 +134,107 @@ fn sealing_opposite(side: Side) -> Direction
 }
 
 // What opening a side writes: the plaintext, or the opposite side as the plaintext seals.
-#[derive(Clone, Copy)]
+// An enum is plainer than a closure here: `wanted_of` has the two cases, and a closure's clause would say them again.
+#[derive(Clone, Copy, Debug, PartialEq, Eq)]
 enum Wanted {
     Plaintext,
     Opposite,
 }
 
 // Opens a side with a prepared key: what is wanted reaches `out` only if the plaintext has the tag.
-fn open_in<'k>(
-    t: &Table,
-    w: &'k [u32],
-    powers: &'k [u64; 18],
-    ctx: Context,
+#[tactic(auto, using(block::proofs::Lists::bytes_all, crate::proofs::Opening::none_fits, crate::proofs::Opening::gives_plaintext))]
+fn open_in(
+    keyed: &Keyed,
+    tweak: Block,
     wanted: Wanted,
     side: Side,
     x: &[u8],
     tag: &[u8],
     out: &mut [u8],
     scratch: &mut [u8],
-) -> Done
-    requires { Ready t.now w.now powers.now ctx × Sizes (length x.now) (length out.old) (length scratch.old) (length tag.now) }
-    ensures { opened_as wanted (scheme_of w.now powers.now) (value ctx.tweak) (side_named side) x.now tag.now out.old ≡ (done_number result, out.new) }
+) -> Result<(), Refusal>
+    requires { Sizes (length x.now) (length out.old) (length scratch.old) (length tag.now) }
+    ensures { opened_as wanted (scheme_lent keyed.now) (value tweak) (side_named side) x.now tag.now out.old
+        ≡ (done_number result, out.new) }
 {
-    if verdict::opens(t, w, powers, ctx, side, x, tag, scratch) {
-        match wanted {
-            Wanted::Plaintext => {
-                block::copy(&scratch[..], out);
-                return Done::Done;
-            }
-            Wanted::Opposite => {
-                let g = block::load(tag, 0);
-                mode::transform(t, w, ctx.beta, sealing_opposite(side), g, &scratch[..], out);
-                return Done::Done;
-            }
+    if !verdict::opens(keyed, tweak, side, x, tag, scratch) {
+        return Err(Refusal::NoneFits);
+    }
+    match wanted {
+        Wanted::Plaintext => out.copy_from_slice(&scratch[..]),
+        Wanted::Opposite => {
+            let tag = Block::load(tag, 0);
+            mode::transform(&keyed.pads, sealing_opposite(side), tag, &scratch[..], out);
         }
     }
-    Done::Refused(Refusal::NoneFits)
+    Ok(())
 }
 
 fn open_checked(
     wanted: Wanted,
-    key: &[u8],
-    volume: u64,
-    address: u64,
+    at: &Location,
     side: Side,
     x: &[u8],
     tag: &[u8],
     out: &mut [u8],
-) -> Done
-    requires { (is_key (key_from key.now) ≡ true) × Sizes (length x.now) (length out.old) (length out.old) (length tag.now) }
-    ensures { opened_as wanted (scheme (key_from key.now)) (tweak volume address) (side_named side) x.now tag.now out.old ≡ (done_number result, out.new) }
+) -> Result<(), Refusal>
+    requires { (is_key (key_from at.now.key.now) ≡ true) × Sizes (length x.now) (length out.old) (length out.old) (length tag.now) }
+    ensures { opened_as wanted (scheme (key_from at.now.key.now)) (tweak at.now.volume at.now.address) (side_named side)
+        x.now tag.now out.old ≡ (done_number result, out.new) }
 {
-    let t = aes::table();
-    let k = mode::prepare(&t, key);
-    let ctx = mode::context_at(k.masks, volume, address);
-    let s = x.len();
+    let table = aes::table();
+    let prepared = mode::prepare(&table, at.key);
+    let tweak = mode::tweak_at(at.volume, at.address);
     let mut scratch = [0u8; 4096];
+    let scratch = &mut scratch[..x.len()];
     open_in(
-        &t,
-        &k.words,
-        &k.powers,
-        ctx,
+        &prepared.lend(&table),
+        tweak,
         wanted,
         side,
         x,
         tag,
         out,
-        &mut scratch[..s],
+        scratch,
     )
 }
 
 // Open and rebuild, which differ in what they write.
+#[tactic(auto, using(answers::proofs::Passing::open_passed))]
 fn open_as(
     wanted: Wanted,
-    key: &[u8],
-    volume: u64,
-    address: u64,
+    at: &Location,
     side: u32,
     x: &[u8],
     tag: &[u8],
     out: &mut [u8],
-) -> Done
-    ensures { open_as wanted (key_from key.now) volume address side x.now tag.now out.old ≡ (done_number result, out.new) }
+) -> Result<(), Refusal>
+    ensures { open_as wanted (key_from at.now.key.now) at.now.volume at.now.address side x.now tag.now out.old
+        ≡ (done_number result, out.new) }
 {
-    let checked = answers::check_open(key, x.len(), out.len(), tag.len(), side);
-    match checked {
-        Done::Done => open_checked(
-            wanted,
-            key,
-            volume,
-            address,
-            verdict::side_numbered(side),
-            x,
-            tag,
-            out,
-        ),
-        Done::Refused(r) => Done::Refused(r),
-    }
+    let side = answers::check_open(at.key, x.len(), out.len(), tag.len(), side)?;
+    open_checked(wanted, at, side, x, tag, out)
 }
 
-// Gives the one plaintext that fits the tag and the sector x of a side: 0 is local, 1 remote.
-pub fn open(
-    key: &[u8],
-    volume: u64,
-    address: u64,
-    side: u32,
-    x: &[u8],
-    tag: &[u8],
-    out: &mut [u8],
-) -> Done
-    ensures { open_call (key_from key.now) volume address side x.now tag.now out.old ≡ (done_number result, out.new) }
+// Gives the one plaintext that fits the tag and the sector x of a side, by the number that C has for it: 0 is local, 1 remote.
+#[tactic(auto, unfolding(crate::specs::Calls::open_call))]
+pub fn open(at: &Location, side: u32, x: &[u8], tag: &[u8], out: &mut [u8]) -> Result<(), Refusal>
+    ensures { open_call (key_from at.now.key.now) at.now.volume at.now.address side x.now tag.now out.old ≡ (done_number result, out.new) }
 {
-    open_as(Wanted::Plaintext, key, volume, address, side, x, tag, out)
+    open_as(Wanted::Plaintext, at, side, x, tag, out)
 }
 
 // Writes the opposite side from the sector x of a side and the tag.
+#[tactic(auto, unfolding(crate::specs::Calls::rebuild_call, mode::specs::Sealing::sealed, mode::specs::Scheme::dcm, mode::specs::Scheme::scheme))]
 pub fn rebuild(
-    key: &[u8],
-    volume: u64,
-    address: u64,
+    at: &Location,
     side: u32,
     x: &[u8],
     tag: &[u8],
     out: &mut [u8],
-) -> Done
-    ensures { rebuild_call (key_from key.now) volume address side x.now tag.now out.old ≡ (done_number result, out.new) }
+) -> Result<(), Refusal>
+    ensures { rebuild_call (key_from at.now.key.now) at.now.volume at.now.address side x.now tag.now out.old
+        ≡ (done_number result, out.new) }
 {
-    open_as(Wanted::Opposite, key, volume, address, side, x, tag, out)
+    open_as(Wanted::Opposite, at, side, x, tag, out)
 }

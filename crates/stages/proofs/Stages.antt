@@ -4,27 +4,25 @@ use mathlib.Core.Bool.{Bool, true, false, not, ◌&&◌}
 use mathlib.Core.List.{List, [], ◌∷◌}
 use Prim.Native.Nat.{ℕ}
 use Rattle.block.specs.Bytes.{part, patch, same}
-use Rattle.block.specs.Value.{value}
 use Rattle.block.proofs.Lists.{and_both}
 use Rattle.fips197.specs.Aes.{cipher_number}
 use Rattle.hash.specs.Powers.{key_of}
-use Rattle.mode.specs.declared.Context.{Context}
 use Rattle.mode.specs.Scheme.{Place, local, tag, remote, on, wide, Scheme}
 use Rattle.mode.specs.Sealing.{Triple, tag_block, triple}
-use Rattle.answers.specs.declared.Judged.{Judged}
-use Rattle.answers.specs.declared.Judged.TheVariants as J
+use Rattle.answers.specs.declared.Found.{Found}
+use Rattle.answers.specs.declared.Found.TheVariants as F
 use Rattle.answers.specs.declared.Place as D
 use Rattle.answers.specs.declared.Refusal.{Refusal}
-use Rattle.answers.specs.Answers.{judged_number}
+use Rattle.answers.specs.Answers.{refusal_number, finding_number}
 use Rattle.answers.specs.Rules.{rule, first_of, settle}
 use Rattle.mode.specs.Prepared.{scheme_of}
-use Rattle.verdict.specs.Judging.{judged_by}
+use Rattle.verdict.specs.Judging.{verdict_outcome}
 use Rattle.verdict.specs.Verdict.{Verdict, fits, judge}
 use Rattle.history.specs.Answers.{done, is_whole, answer_number}
 use Rattle.history.specs.Volume.{Call, first, second, third, sector_of, store, late, writes, result}
 use Rattle.images.proofs.Sealed.{coded, coded_fits}
-use Rattle.stages.specs.Inner.{one, seal_into, late_outcome, late_by}
-use Rattle.stages.proofs.Verdicts.{is_whole_lem, is_doubtful_lem, is_refused_lem, refused_not_whole}
+use Rattle.stages.specs.Inner.{one, seal_into, late_outcome}
+use Rattle.stages.proofs.Verdicts.{found_whole, found_doubtful, found_refused, refused_not_whole}
 use Rattle.stages.proofs.Writes.{one_written}
 
 -- ---- a stage
@@ -62,40 +60,38 @@ module _ (S : Scheme) (T s i : ℕ) (P : List ℕ) (v : Triple) where
       ∙ ap (λ (b : Bool). settle (first_of (rule 10 (not b) ∷ [])) (0, seal_into S T s i P (one q) v) v) e
 
 -- with a prepared key
-module _ (w p : List ℕ) (ctx : Context) (s i : ℕ) (P l g r : List ℕ) where
+module _ (w p : List ℕ) (T' s i : ℕ) (P l g r : List ℕ) where
   abbrev S' : Scheme
   S' = scheme_of w p
-
-  abbrev T' : ℕ
-  T' = value ctx.tweak
 
   abbrev v' : Triple
   v' = triple l g r
 
   stage_done : {c : Call} {q : Place} {x : Bool} → Stage S' T' s i P v' c q x → x ≡ true → {k : ℕ} → k ≡ tag_block (cipher_number w) (key_of p) T' P
-      → {o : List ℕ} → o ≡ patch (wide s q) i (coded w P k q) (on v' q) → late_by w p ctx s i v' c ≡ (0, store q o v')
+      → {o : List ℕ} → o ≡ patch (wide s q) i (coded w P k q) (on v' q) → late_outcome S' T' s i v' c ≡ (0, store q o v')
   stage_done {q = q} z e ek eo = stage_outcome S' T' s i P v' z e ∙ ap (λ (u : Triple). (0, u)) (sym (one_written w p T' s i P l g r ek q eo))
 
-  stage_refused : {c : Call} {q : Place} {x : Bool} → Stage S' T' s i P v' c q x → x ≡ false → late_by w p ctx s i v' c ≡ (10, v')
+  stage_refused : {c : Call} {q : Place} {x : Bool} → Stage S' T' s i P v' c q x → x ≡ false → late_outcome S' T' s i v' c ≡ (10, v')
   stage_refused z e = stage_outcome S' T' s i P v' z e
 
   -- ---- the first stage
 
-  module _ (out : List ℕ) {o : List ℕ} (j : Judged) (e : judged_by w p ctx (part s i l) (part 16 i g) (part s i r) out ≡ (judged_number j, o)) where
-    abbrev found : Verdict
-    found = judge S' T' (sector_of s i v')
+  abbrev found : Verdict
+  found = judge S' T' (sector_of s i v')
 
-    pub first_whole : j ≡ J.Whole → {k : ℕ} → k ≡ tag_block (cipher_number w) (key_of p) T' P → {x : List ℕ} → x ≡ patch s i (coded w P k local) l
-        → late_by w p ctx s i v' (first P) ≡ (0, triple x g r)
+  module _ (out : List ℕ) {o : List ℕ} where
+    pub first_whole : {f : Found} → verdict_outcome found out ≡ (finding_number f, o) → f ≡ F.Whole
+        → {k : ℕ} → k ≡ tag_block (cipher_number w) (key_of p) T' P → {x : List ℕ} → x ≡ patch s i (coded w P k local) l
+        → late_outcome S' T' s i v' (first P) ≡ (0, triple x g r)
     unfolding is_whole
-    first_whole q = stage_done (first_is S' T' s i P v') (ap is_whole (is_whole_lem found out j e q))
+    first_whole e q = stage_done (first_is S' T' s i P v') (ap is_whole (found_whole found out e q))
 
-    pub first_doubtful : {d : D.Place} → j ≡ J.Doubtful d → late_by w p ctx s i v' (first P) ≡ (10, v')
+    pub first_doubtful : {f : Found} {d : D.Place} → verdict_outcome found out ≡ (finding_number f, o) → f ≡ F.Doubtful d → late_outcome S' T' s i v' (first P) ≡ (10, v')
     unfolding is_whole
-    first_doubtful q = stage_refused (first_is S' T' s i P v') (ap is_whole (is_doubtful_lem found out j e q))
+    first_doubtful e q = stage_refused (first_is S' T' s i P v') (ap is_whole (found_doubtful found out e q))
 
-    pub first_refused : {f : Refusal} → j ≡ J.Refused f → late_by w p ctx s i v' (first P) ≡ (10, v')
-    first_refused q = stage_refused (first_is S' T' s i P v') (refused_not_whole found (is_refused_lem found out j e q))
+    pub first_refused : (f : Refusal) → verdict_outcome found out ≡ (refusal_number f, o) → late_outcome S' T' s i v' (first P) ≡ (10, v')
+    first_refused f e = stage_refused (first_is S' T' s i P v') (refused_not_whole found (found_refused found out f e))
 
   -- ---- the second and the third stage: x and y are the code's tests of the local place and of the tag
 
@@ -103,22 +99,22 @@ module _ (w p : List ℕ) (ctx : Context) (s i : ℕ) (P l g r : List ℕ) where
     fits_x : x ≡ fits S' T' (sector_of s i v') local P
     fits_x = coded_fits w p T' P ek (sector_of s i v') local ex
 
-    pub second_fits : x ≡ true → {o : List ℕ} → o ≡ patch 16 i (coded w P k tag) g → late_by w p ctx s i v' (second P) ≡ (0, triple l o r)
+    pub second_fits : x ≡ true → {o : List ℕ} → o ≡ patch 16 i (coded w P k tag) g → late_outcome S' T' s i v' (second P) ≡ (0, triple l o r)
     second_fits e = stage_done (second_is S' T' s i P v') (sym fits_x ∙ e) ek
 
-    pub second_fails : x ≡ false → late_by w p ctx s i v' (second P) ≡ (10, v')
+    pub second_fails : x ≡ false → late_outcome S' T' s i v' (second P) ≡ (10, v')
     second_fails e = stage_refused (second_is S' T' s i P v') (sym fits_x ∙ e)
 
-    pub third_fails_local : x ≡ false → late_by w p ctx s i v' (third P) ≡ (10, v')
+    pub third_fails_local : x ≡ false → late_outcome S' T' s i v' (third P) ≡ (10, v')
     third_fails_local e = stage_refused (third_is S' T' s i P v') (and_first _ (fits S' T' (sector_of s i v') tag P) (sym fits_x ∙ e))
 
     module _ {y : Bool} (ey : y ≡ same (part 16 i g) (coded w P k tag)) where
       fits_y : y ≡ fits S' T' (sector_of s i v') tag P
       fits_y = coded_fits w p T' P ek (sector_of s i v') tag ey
 
-      pub third_fits : x ≡ true → y ≡ true → {o : List ℕ} → o ≡ patch s i (coded w P k remote) r → late_by w p ctx s i v' (third P) ≡ (0, triple l g o)
+      pub third_fits : x ≡ true → y ≡ true → {o : List ℕ} → o ≡ patch s i (coded w P k remote) r → late_outcome S' T' s i v' (third P) ≡ (0, triple l g o)
       third_fits e f =
           stage_done (third_is S' T' s i P v') (and_both (fits S' T' (sector_of s i v') local P) (fits S' T' (sector_of s i v') tag P) (sym fits_x ∙ e) (sym fits_y ∙ f)) ek
 
-      pub third_fails_tag : y ≡ false → late_by w p ctx s i v' (third P) ≡ (10, v')
+      pub third_fails_tag : y ≡ false → late_outcome S' T' s i v' (third P) ≡ (10, v')
       third_fails_tag f = stage_refused (third_is S' T' s i P v') (and_second (fits S' T' (sector_of s i v') local P) _ (sym fits_y ∙ f))

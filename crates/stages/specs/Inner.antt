@@ -1,8 +1,9 @@
 -- What the inner functions answer and leave. Assumes nothing: these are definitions.
 use Rattle.std.specs.Prelude.{List, [], ◌∷◌, ℕ, length}
+use Rattle.block.specs.declared.Block.{Block}
 use Rattle.block.specs.Value.{value}
-use Rattle.mode.specs.declared.Context.{Context}
-use Rattle.mode.specs.Prepared.{scheme_of}
+use Rattle.mode.specs.declared.lent.Keyed.{Keyed}
+use Rattle.mode.specs.Lent.{scheme_lent}
 use Rattle.mode.specs.Scheme.{Place, local, tag, remote, on, Scheme}
 use Rattle.mode.specs.Sealing.{Triple}
 use Rattle.answers.specs.Rules.{first_of, settle}
@@ -29,10 +30,10 @@ late_outcome S T s i v c =
     let written = writes s S T t c in
     settle (first_of (late S T t c)) (answer_number (result S T t c), seal_into S T s i written.plain written.places v) v
 
--- ---- the same with the round keys w, the powers of the hash key and a context
+-- ---- the same with a prepared key and a tweak's block
 
-abbrev pub seal_by : List ℕ → List ℕ → Context → ℕ → List ℕ → List Place → Triple → Triple
-seal_by w powers ctx i P places v = seal_into (scheme_of w powers) (value ctx.tweak) (length P) i P places v
+abbrev pub seal_by : Keyed → Block → ℕ → List ℕ → List Place → Triple → Triple
+seal_by keyed tweak i P places v = seal_into (scheme_lent keyed) (value tweak) (length P) i P places v
 
-abbrev pub late_by : List ℕ → List ℕ → Context → ℕ → ℕ → Triple → Call → ℕ × Triple
-late_by w powers ctx s i v c = late_outcome (scheme_of w powers) (value ctx.tweak) s i v c
+abbrev pub late_by : Keyed → Block → ℕ → ℕ → Triple → Call → ℕ × Triple
+late_by keyed tweak s i v c = late_outcome (scheme_lent keyed) (value tweak) s i v c

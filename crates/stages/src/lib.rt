@@ -1,24 +1,27 @@
 // The calls on one sector of a volume with a prepared key: the three stages, the writing of all places and the mend.
+//
+// The three images stay three slices: which of them is written differs by call, and a struct of `&mut` images would owe a clause for
+// each image that stays. So do the slices to work in: a struct of them would be taken apart again where a sector is judged. The
+// tweak stands beside the key, since a survey has one key and a tweak a sector.
 #![tactic(auto)]
 
 ghost use Rattle.std.specs.Prelude.{◌≡◌, length};
-ghost use Rattle.mode.specs.Prepared.{Ready};
 ghost use Rattle.mode.specs.Sealing.{triple};
 ghost use Rattle.answers.specs.Answers.{place_named, done_number, judged_number};
 ghost use Rattle.history.specs.Volume as W;
 ghost use Rattle.images.specs.Lent.{Within, Scratch};
 ghost use Rattle.stages.specs.Inner.{all_places, one, seal_by, late_by};
 
-use aes::Table;
-use answers::{Done, Judged, Place, Refusal};
-use mode::{Context, Direction};
+use answers::{Found, Place, Places, Refusal};
+use block::Block;
+use images::Sector;
+use mode::{Direction, Keyed};
 
 // The first stage with a prepared key: p's local sector, if the sector is whole.
-pub fn first_in<'k>(
-    t: &Table,
-    w: &'k [u32],
-    powers: &'k [u64; 18],
-    ctx: Context,
+#[tactic(auto, using(block::proofs::Lists::bytes_all))]
+pub fn first_in(
+    keyed: &Keyed,
+    tweak: Block,
     p: &[u8],
     i: usize,
     local: &mut [u8],
@@ -27,111 +30,106 @@ pub fn first_in<'k>(
     plain: &mut [u8],
     sum: &mut [u8],
     scratch: &mut [u8],
-) -> Done
-    requires { Ready t.now w.now powers.now ctx × Within (length p.now) i (length local.old) (length tags.now) (length remote.now) × Scratch (length p.now) plain.old sum.old scratch.old }
-    ensures { late_by w.now powers.now ctx (length p.now) i (triple local.old tags.now remote.now) (W.first p.now) ≡ (done_number result, triple local.new tags.now remote.now) }
+) -> Result<(), Refusal>
+    requires { Within (length p.now) i (length local.old) (length tags.now) (length remote.now)
+        × Scratch (length p.now) plain.old sum.old scratch.old }
+    ensures { late_by keyed.now tweak (length p.now) i (triple local.old tags.now remote.now) (W.first p.now)
+        ≡ (done_number result, triple local.new tags.now remote.now) }
 {
-    match images::judge_part(
-        t,
-        w,
-        powers,
-        ctx,
-        p.len(),
-        i,
-        &local[..],
-        tags,
+    let images = Places {
+        local: &local[..],
+        tag: tags,
         remote,
-        plain,
-        sum,
-        scratch,
-    ) {
-        Judged::Whole => {
-            let g = mode::tag_block(t, w, powers, ctx, p);
-            images::write_side(t, w, ctx.beta, Direction::SealLocal, g, p, i, local);
-            Done::Done
+    };
+    let sector = Sector {
+        images,
+        size: p.len(),
+        number: i,
+    };
+    match images::judge_part(keyed, tweak, &sector, plain, sum, scratch) {
+        Ok(Found::Whole) => {
+            let g = mode::tag_block(keyed, tweak, p);
+            images::write_side(&keyed.pads, Direction::SealLocal, g, p, i, local);
+            Ok(())
         }
-        Judged::Doubtful(_) => Done::Refused(Refusal::StageOrder),
-        Judged::Refused(_) => Done::Refused(Refusal::StageOrder),
+        Ok(Found::Doubtful(_)) => Err(Refusal::StageOrder),
+        Err(_) => Err(Refusal::StageOrder),
     }
 }
 
 // The second stage with a prepared key: p's tag, if p fits the local place.
-pub fn second_in<'k>(
-    t: &Table,
-    w: &'k [u32],
-    powers: &'k [u64; 18],
-    ctx: Context,
+#[tactic(auto, using(crate::proofs::Stages::second_fits, crate::proofs::Stages::second_fails))]
+pub fn second_in(
+    keyed: &Keyed,
+    tweak: Block,
     p: &[u8],
     i: usize,
     local: &[u8],
     tags: &mut [u8],
     remote: &[u8],
     scratch: &mut [u8],
-) -> Done
-    requires { Ready t.now w.now powers.now ctx × Within (length p.now) i (length local.now) (length tags.old) (length remote.now) × (length scratch.old ≡ length p.now) }
-    ensures { late_by w.now powers.now ctx (length p.now) i (triple local.now tags.old remote.now) (W.second p.now) ≡ (done_number result, triple local.now tags.new remote.now) }
+) -> Result<(), Refusal>
+    requires { Within (length p.now) i (length local.now) (length tags.old) (length remote.now) × (length scratch.old ≡ length p.now) }
+    ensures { late_by keyed.now tweak (length p.now) i (triple local.now tags.old remote.now) (W.second p.now)
+        ≡ (done_number result, triple local.now tags.new remote.now) }
 {
-    let g = mode::tag_block(t, w, powers, ctx, p);
-    if images::fits_local(t, w, ctx.beta, g, p, i, local, scratch) {
+    let g = mode::tag_block(keyed, tweak, p);
+    if images::fits_local(&keyed.pads, g, p, i, local, scratch) {
         images::write_tag(g, i, tags);
-        return Done::Done;
+        return Ok(());
     }
-    Done::Refused(Refusal::StageOrder)
+    Err(Refusal::StageOrder)
 }
 
 // The third stage with a prepared key: p's remote sector, if p fits the local place and the tag.
-pub fn third_in<'k>(
-    t: &Table,
-    w: &'k [u32],
-    powers: &'k [u64; 18],
-    ctx: Context,
+#[tactic(auto, using(crate::proofs::Stages::third_fails_local, crate::proofs::Stages::third_fails_tag))]
+pub fn third_in(
+    keyed: &Keyed,
+    tweak: Block,
     p: &[u8],
     i: usize,
     local: &[u8],
     tags: &[u8],
     remote: &mut [u8],
     scratch: &mut [u8],
-) -> Done
-    requires { Ready t.now w.now powers.now ctx × Within (length p.now) i (length local.now) (length tags.now) (length remote.old) × (length scratch.old ≡ length p.now) }
-    ensures { late_by w.now powers.now ctx (length p.now) i (triple local.now tags.now remote.old) (W.third p.now) ≡ (done_number result, triple local.now tags.now remote.new) }
+) -> Result<(), Refusal>
+    requires { Within (length p.now) i (length local.now) (length tags.now) (length remote.old) × (length scratch.old ≡ length p.now) }
+    ensures { late_by keyed.now tweak (length p.now) i (triple local.now tags.now remote.old) (W.third p.now)
+        ≡ (done_number result, triple local.now tags.now remote.new) }
 {
-    let g = mode::tag_block(t, w, powers, ctx, p);
-    if images::fits_local(t, w, ctx.beta, g, p, i, local, scratch) {
-        if images::fits_tag(g, i, tags) {
-            images::write_side(t, w, ctx.beta, Direction::SealRemote, g, p, i, remote);
-            return Done::Done;
-        }
+    let g = mode::tag_block(keyed, tweak, p);
+    if images::fits_local(&keyed.pads, g, p, i, local, scratch) && images::fits_tag(g, i, tags) {
+        images::write_side(&keyed.pads, Direction::SealRemote, g, p, i, remote);
+        return Ok(());
     }
-    Done::Refused(Refusal::StageOrder)
+    Err(Refusal::StageOrder)
 }
 
 // Writes the three places of sector i as p seals.
-pub fn write_all<'k>(
-    t: &Table,
-    w: &'k [u32],
-    powers: &'k [u64; 18],
-    ctx: Context,
+#[tactic(auto, using(crate::proofs::Writes::all_written))]
+pub fn write_all(
+    keyed: &Keyed,
+    tweak: Block,
     p: &[u8],
     i: usize,
     local: &mut [u8],
     tags: &mut [u8],
     remote: &mut [u8],
 )
-    requires { Ready t.now w.now powers.now ctx × Within (length p.now) i (length local.old) (length tags.old) (length remote.old) }
-    ensures { triple local.new tags.new remote.new ≡ seal_by w.now powers.now ctx i p.now all_places (triple local.old tags.old remote.old) }
+    requires { Within (length p.now) i (length local.old) (length tags.old) (length remote.old) }
+    ensures { triple local.new tags.new remote.new ≡ seal_by keyed.now tweak i p.now all_places (triple local.old tags.old remote.old) }
 {
-    let g = mode::tag_block(t, w, powers, ctx, p);
-    images::write_side(t, w, ctx.beta, Direction::SealLocal, g, p, i, local);
+    let g = mode::tag_block(keyed, tweak, p);
+    images::write_side(&keyed.pads, Direction::SealLocal, g, p, i, local);
     images::write_tag(g, i, tags);
-    images::write_side(t, w, ctx.beta, Direction::SealRemote, g, p, i, remote);
+    images::write_side(&keyed.pads, Direction::SealRemote, g, p, i, remote);
 }
 
 // Writes one place of sector i as p seals.
+#[tactic(auto, using(crate::proofs::Writes::local_written, crate::proofs::Writes::tag_written, crate::proofs::Writes::remote_written))]
 fn write_place(
-    t: &Table,
-    w: &[u32],
-    powers: &[u64; 18],
-    ctx: Context,
+    keyed: &Keyed,
+    tweak: Block,
     place: Place,
     p: &[u8],
     i: usize,
@@ -139,23 +137,23 @@ fn write_place(
     tags: &mut [u8],
     remote: &mut [u8],
 )
-    requires { Ready t.now w.now powers.now ctx × Within (length p.now) i (length local.old) (length tags.old) (length remote.old) }
-    ensures { triple local.new tags.new remote.new ≡ seal_by w.now powers.now ctx i p.now (one (place_named place)) (triple local.old tags.old remote.old) }
+    requires { Within (length p.now) i (length local.old) (length tags.old) (length remote.old) }
+    ensures { triple local.new tags.new remote.new
+        ≡ seal_by keyed.now tweak i p.now (one (place_named place)) (triple local.old tags.old remote.old) }
 {
-    let g = mode::tag_block(t, w, powers, ctx, p);
+    let g = mode::tag_block(keyed, tweak, p);
     match place {
-        Place::Local => images::write_side(t, w, ctx.beta, Direction::SealLocal, g, p, i, local),
+        Place::Local => images::write_side(&keyed.pads, Direction::SealLocal, g, p, i, local),
         Place::Tag => images::write_tag(g, i, tags),
-        Place::Remote => images::write_side(t, w, ctx.beta, Direction::SealRemote, g, p, i, remote),
+        Place::Remote => images::write_side(&keyed.pads, Direction::SealRemote, g, p, i, remote),
     }
 }
 
 // The mend with a prepared key: the doubtful place as the one plaintext seals.
-pub fn mend_in<'k>(
-    t: &Table,
-    w: &'k [u32],
-    powers: &'k [u64; 18],
-    ctx: Context,
+#[tactic(auto, using(block::proofs::Lists::bytes_all, crate::proofs::Mends::mend_doubtful))]
+pub fn mend_in(
+    keyed: &Keyed,
+    tweak: Block,
     s: usize,
     i: usize,
     local: &mut [u8],
@@ -164,29 +162,24 @@ pub fn mend_in<'k>(
     plain: &mut [u8],
     sum: &mut [u8],
     scratch: &mut [u8],
-) -> Judged
-    requires { Ready t.now w.now powers.now ctx × Within s i (length local.old) (length tags.old) (length remote.old) × Scratch s plain.old sum.old scratch.old }
-    ensures { late_by w.now powers.now ctx s i (triple local.old tags.old remote.old) W.mend ≡ (judged_number result, triple local.new tags.new remote.new) }
+) -> Result<Found, Refusal>
+    requires { Within s i (length local.old) (length tags.old) (length remote.old) × Scratch s plain.old sum.old scratch.old }
+    ensures { late_by keyed.now tweak s i (triple local.old tags.old remote.old) W.mend
+        ≡ (judged_number result, triple local.new tags.new remote.new) }
 {
-    match images::judge_part(
-        t,
-        w,
-        powers,
-        ctx,
-        s,
-        i,
-        &local[..],
-        &tags[..],
-        &remote[..],
-        plain,
-        sum,
-        scratch,
-    ) {
-        Judged::Whole => Judged::Whole,
-        Judged::Doubtful(place) => {
-            write_place(t, w, powers, ctx, place, &plain[..], i, local, tags, remote);
-            Judged::Doubtful(place)
-        }
-        Judged::Refused(f) => Judged::Refused(f),
+    let images = Places {
+        local: &local[..],
+        tag: &tags[..],
+        remote: &remote[..],
+    };
+    let sector = Sector {
+        images,
+        size: s,
+        number: i,
+    };
+    let found = images::judge_part(keyed, tweak, &sector, plain, sum, scratch)?;
+    if let Found::Doubtful(place) = found {
+        write_place(keyed, tweak, place, &plain[..], i, local, tags, remote);
     }
+    Ok(found)
 }

@@ -11,9 +11,10 @@ use Rattle.bits.specs.Bits.{bit}
 use Rattle.bits.proofs.Bits.{bit_zeros}
 use Rattle.verdict.specs.Verdict.{Verdict}
 use Rattle.history.specs.Answers.{is_whole}
+use Rattle.survey.specs.declared.maps.Maps.{Maps}
 use Rattle.report.specs.declared.Counts.{Counts}
 use Rattle.report.specs.Survey.{chosen, tally, listed, counted, surveyed}
-use Rattle.survey.specs.Inner.{Maps, maps, Empty, set_below, in_order, AllJudged}
+use Rattle.survey.specs.Inner.{maps, Empty, set_below, in_order, AllJudged}
 use Rattle.report.proofs.Tallies.{chosen_le, all_counted}
 
 -- ---- one map
@@ -124,8 +125,8 @@ module _ {w : ℕ → Verdict} {n : ℕ} {c : Counts} {m : Maps} (f : AllJudged 
   pub judged_few : length (in_order n m) ≤ n
   judged_few = omega (arith, ap length judged_order, length-listed w n)
 
-  pub judged-listed : (list : List ℕ) {new : List ℕ} → n ≤ length list → new ≡ sets list 0 (in_order n m) → surveyed w n list ≡ (counted c, new)
-  judged-listed list room e =
+  pub judged_listed : (list : List ℕ) {new : List ℕ} → n ≤ length list → new ≡ sets list 0 (in_order n m) → surveyed w n list ≡ (counted c, new)
+  judged_listed list room e =
       let k : 0 + length (listed w n) ≡ length (listed w n) = omega arith in
       ap₂ (λ (x : Counts) (l : List ℕ). (counted x, l)) (sym f.counts)
       (sym (e ∙ ap (sets list 0) judged_order ∙ sets-eq (listed w n) list 0 (omega (arith, length-listed w n)) ∙ ap (λ (j : ℕ). listed w n ++ drop j list) k))

@@ -1,105 +1,114 @@
 -- The survey, sector by sector: what each verdict adds to the counts and to the maps, the loop and the prepared key. Assumes nothing.
 use mathlib.Core.Path.{◌≡◌, refl, sym, ap, subst, ◌∙◌}
-use mathlib.Core.Bool.{Bool, true, false, not}
+use mathlib.Core.Bool.{Bool, true, false, cond}
 use mathlib.Core.Logic.{⊎_elim}
 use mathlib.Core.List.{List}
+use Rattle.std.specs.Prelude.{Result, Ok, Err}
 use Prim.Native.Nat.{ℕ, suc, ◌+◌, ◌*◌, ◌/◌, ◌<◌, ◌≤◌}
 use native.Mathlib.Numerals.{add-one}
 use native.Mathlib.Omega.{arith}
-use lib.Dec.{eqb}
 use lib.ListN.{length}
-use borrow.Author.Tests.{eq-eqb, ne_eqb}
-use Rattle.mode.specs.declared.Context.{Context}
-use Rattle.mode.specs.Prepared.{PreparedFor, scheme_of}
 use Rattle.mode.specs.Scheme.{Scheme, dcm, scheme}
-use Rattle.mode.specs.Sealing.{tweak, sealed, triple, Key}
+use Rattle.mode.specs.Sealing.{Triple, sealed, tweak, Key}
 use Rattle.bits.specs.Bits.{bit, mark}
 use Rattle.bits.proofs.Bits.{bit-mark_same, bit-mark_other, length-mark}
-use Rattle.block.specs.declared.Block.{Block}
-use Rattle.block.specs.Value.{value}
-use Rattle.block.specs.Bytes.{part}
-use Rattle.answers.specs.declared.Judged.{Judged}
-use Rattle.answers.specs.declared.Judged.TheVariants as J
+use Rattle.answers.specs.declared.Found.{Found}
+use Rattle.answers.specs.declared.Found.TheVariants as F
 use Rattle.answers.specs.declared.Place as D
 use Rattle.answers.specs.declared.Refusal.{Refusal}
-use Rattle.answers.specs.declared.Refusal.TheVariants.{Lost}
+use Rattle.answers.specs.declared.Refusal.TheVariants as R
 use Rattle.answers.specs.Answers.{refusal_number, place_named, judged_number}
-use Rattle.verdict.specs.Judging.{verdict_number, judged_by}
+use Rattle.answers.specs.Lent.{triple_of}
+use Rattle.verdict.specs.Judging.{verdict_number, verdict_outcome}
 use Rattle.verdict.specs.Verdict.{Verdict, whole, doubtful, lost, clashing, fits, fits_two, candidate, grade, judge}
-use Rattle.mode.proofs.Preparing.{scheme_is}
 use Rattle.answers.proofs.Numbers.{refusal_range, doubt_least, refusal_one}
 use Rattle.verdict.proofs.Numbers.{outcome_number}
 use Rattle.history.specs.Answers.{is_whole, is_doubtful, is_clashing, is_lost}
-use Rattle.history.specs.Volume.{mirror}
-use Rattle.images.specs.Lent.{places_of}
+use Rattle.history.specs.Volume.{mirror, sector_of}
 use Rattle.report.specs.declared.Counts.{Counts}
+use Rattle.survey.specs.declared.lent.Images.{Images}
+use Rattle.survey.specs.declared.maps.Kind.{Kind}
+use Rattle.survey.specs.declared.maps.Kind.TheVariants.{Whole, Doubtful, Clashing, Lost}
+use Rattle.survey.specs.declared.maps.Maps.{Maps}
 use Rattle.report.specs.Inner.{add_if}
 use Rattle.report.specs.Survey.{chosen, numbers, tally, health, counts_of, Report, verdict_at, surveyed}
-use Rattle.survey.specs.Inner.{verdict_by, Tells, counting, CountsOne, Maps, maps, mark_if, marking, MarksOne, Sized, Empty, set_below, AllJudged}
+use Rattle.survey.specs.Inner.{kind_of, verdict_by, counting, maps, marking, Sized, Empty, set_below, AllJudged}
 use Rattle.report.proofs.Tallies.{at_or_below, chosen_same, tally_next, tally_le}
 
--- ---- one sector: what the code's answer tells of the verdict
+-- ---- one sector: the kind that the code's answer tells
 
--- whole, doubtful, clashing or lost
-pub record Kind (w : Verdict) (a b c d : Bool) : Type 0 where
-  pub whole : is_whole w ≡ a
-  pub doubtful : is_doubtful w ≡ b
-  pub clashing : is_clashing w ≡ c
-  pub lost : is_lost w ≡ d
+-- of sector i, judged with the tweak T
+module _ (S : Scheme) {T U : ℕ} (t : Triple) (out : List ℕ) {new : List ℕ} (j : Result Found Refusal) (d : T ≡ U)
+    (e : verdict_outcome (judge S T t) out ≡ (judged_number j, new)) where
+  told : judged_number j ≡ verdict_number (judge S U t)
+  told =
+      ap (λ (x : ℕ × List ℕ). x.0) (sym e)
+      ∙ outcome_number (judge S T t) out
+      ∙ ap (λ (x : ℕ). verdict_number (judge S x t)) d
 
-pub tells_whole : {j : Judged} → j ≡ J.Whole → (w : Verdict) → Tells j w → Kind w true false false false
-unfolding is_whole is_doubtful is_clashing is_lost
-tells_whole z (whole P) e = record { whole = refl; doubtful = refl; clashing = refl; lost = refl }
-tells_whole z (doubtful d P) e = absurd (omega (arith, doubt_least d, ap judged_number z))
-tells_whole z lost e = absurd (omega (arith, ap judged_number z))
-tells_whole z clashing e = absurd (omega (arith, ap judged_number z))
+  pub kind_whole : j ≡ Ok F.Whole → Whole ≡ kind_of (judge S U t)
+  kind_whole z = go (judge S U t) (ap judged_number (sym z) ∙ told)
+    where
+      go : (w : Verdict) → 0 ≡ verdict_number w → Whole ≡ kind_of w
+      go (whole P) e = refl
+      go (doubtful d P) e = absurd (omega (arith, doubt_least d))
+      go lost e = absurd (omega arith)
+      go clashing e = absurd (omega arith)
 
-pub tells_doubtful : {j : Judged} {p : D.Place} → j ≡ J.Doubtful p → (w : Verdict) → Tells j w → Kind w false true false false
-unfolding is_whole is_doubtful is_clashing is_lost
-tells_doubtful {j} {p} z (whole P) e = absurd (omega (arith, doubt_least (place_named p), ap judged_number z))
-tells_doubtful z (doubtful d P) e = record { whole = refl; doubtful = refl; clashing = refl; lost = refl }
-tells_doubtful {j} {p} z lost e = absurd (omega (arith, doubt_least (place_named p), ap judged_number z))
-tells_doubtful {j} {p} z clashing e = absurd (omega (arith, doubt_least (place_named p), ap judged_number z))
+  pub kind_doubtful : {p : D.Place} → j ≡ Ok (F.Doubtful p) → Doubtful ≡ kind_of (judge S U t)
+  kind_doubtful {p} z = go (judge S U t) (ap judged_number (sym z) ∙ told)
+    where
+      go : (w : Verdict) → judged_number (Ok (F.Doubtful p)) ≡ verdict_number w → Doubtful ≡ kind_of w
+      go (whole P) e = absurd (omega (arith, doubt_least (place_named p)))
+      go (doubtful d P) e = refl
+      go lost e = absurd (omega (arith, doubt_least (place_named p)))
+      go clashing e = absurd (omega (arith, doubt_least (place_named p)))
 
--- a refusal of judging: lost if it is 6, else clashing
-tells_refused : {j : Judged} {f : Refusal} → j ≡ J.Refused f → (w : Verdict) → Tells j w
-    → Kind w false false (not (eqb (refusal_number f) 6)) (eqb (refusal_number f) 6)
-unfolding is_whole is_doubtful is_clashing is_lost
-tells_refused {j} {f} z (whole P) e = absurd (omega (arith, refusal_range f, ap judged_number z))
-tells_refused {j} {f} z (doubtful d P) e = absurd (omega (arith, refusal_range f, doubt_least d, ap judged_number z))
-tells_refused {j} {f} z lost e =
-    let y = eq-eqb (refusal_number f) 6 (ap judged_number (sym z) ∙ e.number) in
-    record { whole = refl; doubtful = refl; clashing = sym (ap not y); lost = sym y }
-tells_refused {j} {f} z clashing e =
-    let y = ne_eqb (refusal_number f) 6 (λ d. omega (arith, ap judged_number z)) in
-    record { whole = refl; doubtful = refl; clashing = sym (ap not y); lost = sym y }
+  pub kind_lost : {f : Refusal} → j ≡ Err f → f ≡ R.Lost → Lost ≡ kind_of (judge S U t)
+  kind_lost z y = go (judge S U t) (ap judged_number (sym (z ∙ ap Err y)) ∙ told)
+    where
+      go : (w : Verdict) → 6 ≡ verdict_number w → Lost ≡ kind_of w
+      go (whole P) e = absurd (omega arith)
+      go (doubtful d P) e = absurd (omega (arith, doubt_least d))
+      go lost e = refl
+      go clashing e = absurd (omega arith)
 
-pub tells_lost : {j : Judged} {f : Refusal} → j ≡ J.Refused f → f ≡ Lost → (w : Verdict) → Tells j w → Kind w false false false true
-tells_lost z d w e = tells_refused (z ∙ ap J.Refused d) w e
+  -- the one refusal of judging but lost
+  pub kind_clashing : {f : Refusal} → j ≡ Err f → (f ≡ R.Lost → ⊥) → Clashing ≡ kind_of (judge S U t)
+  kind_clashing {f} z y = go (judge S U t) (ap judged_number (sym z) ∙ told)
+    where
+      go : (w : Verdict) → refusal_number f ≡ verdict_number w → Clashing ≡ kind_of w
+      go (whole P) e = absurd (omega (arith, refusal_range f))
+      go (doubtful d P) e = absurd (omega (arith, refusal_range f, doubt_least d))
+      go lost e = absurd (y (refusal_one f R.Lost e))
+      go clashing e = refl
 
-pub tells_clashing : {j : Judged} {f : Refusal} → j ≡ J.Refused f → (f ≡ Lost → ⊥) → (w : Verdict) → Tells j w → Kind w false false true false
-tells_clashing {j} {f} z d w e =
-    subst (λ (x : Bool). Kind w false false (not x) x) (ne_eqb (refusal_number f) 6 (λ y. d (refusal_one f Lost y))) (tells_refused z w e)
+-- ---- one more sector, by tests of its verdict
 
--- the counts with one sector more
-pub counts_one : (w : Verdict) {a b x d : Bool} → Kind w a b x d → (c : Counts) {k l m n : ℕ}
-    → k ≡ add_if a c.whole → l ≡ add_if b c.doubtful → m ≡ add_if x c.clashing → n ≡ add_if d c.lost
-    → record { whole = k; doubtful = l; clashing = m; lost = n; health = c.health } ≡ counting w c
-counts_one w z c ek el em en = λ i. record {
-  whole = (ek ∙ ap (λ (y : Bool). add_if y c.whole) (sym z.whole)) i;
-  doubtful = (el ∙ ap (λ (y : Bool). add_if y c.doubtful) (sym z.doubtful)) i;
-  clashing = (em ∙ ap (λ (y : Bool). add_if y c.clashing) (sym z.clashing)) i;
-  lost = (en ∙ ap (λ (y : Bool). add_if y c.lost) (sym z.lost)) i;
+-- with number i in the map, if so
+abbrev mark_if : Bool → ℕ → List ℕ → List ℕ
+mark_if b i m = cond b (mark i true m) m
+
+counting_by : (w : Verdict) (c : Counts) → counting (kind_of w) c ≡ record {
+  whole = add_if (is_whole w) c.whole;
+  doubtful = add_if (is_doubtful w) c.doubtful;
+  clashing = add_if (is_clashing w) c.clashing;
+  lost = add_if (is_lost w) c.lost;
   health = c.health;
 }
+unfolding is_whole is_doubtful is_clashing is_lost
+counting_by (whole P) c = ap (λ (k : ℕ). record c { whole = k }) (add-one c.whole)
+counting_by (doubtful d P) c = ap (λ (k : ℕ). record c { doubtful = k }) (add-one c.doubtful)
+counting_by lost c = ap (λ (k : ℕ). record c { lost = k }) (add-one c.lost)
+counting_by clashing c = ap (λ (k : ℕ). record c { clashing = k }) (add-one c.clashing)
 
--- the maps with one sector more
-pub marks_one : (w : Verdict) {a b x d : Bool} → Kind w a b x d → (i : ℕ) (m : Maps) {l c e : List ℕ}
-    → l ≡ mark_if d i m.lost → c ≡ mark_if x i m.clashing → e ≡ mark_if b i m.doubtful → maps l c e ≡ marking w i m
-marks_one w z i m el ec ed = λ j. maps
-    ((el ∙ ap (λ (y : Bool). mark_if y i m.lost) (sym z.lost)) j)
-    ((ec ∙ ap (λ (y : Bool). mark_if y i m.clashing) (sym z.clashing)) j)
-    ((ed ∙ ap (λ (y : Bool). mark_if y i m.doubtful) (sym z.doubtful)) j)
+marking_by : (w : Verdict) (i : ℕ) (m : Maps)
+    → marking (kind_of w) i m ≡ maps (mark_if (is_lost w) i m.lost) (mark_if (is_clashing w) i m.clashing) (mark_if (is_doubtful w) i m.doubtful)
+unfolding is_whole is_doubtful is_clashing is_lost
+marking_by (whole P) i m = refl
+marking_by (doubtful d P) i m = refl
+marking_by lost i m = refl
+marking_by clashing i m = refl
 
 -- ---- the numbers in a map
 
@@ -153,11 +162,6 @@ pub record Loop (w : ℕ → Verdict) (n i : ℕ) (c : Counts) (m : Maps) : Type
   pub told : MapsTell w n i m
   pub sized : Sized n m
 
-pub record SameSizes (old new : Maps) : Type 0 where
-  pub lost : length new.lost ≡ length old.lost
-  pub clashing : length new.clashing ≡ length old.clashing
-  pub doubtful : length new.doubtful ≡ length old.doubtful
-
 maps_sized : {w : ℕ → Verdict} {n i : ℕ} {m : Maps} → MapsTell w n i m → Sized n m
 maps_sized z = record { lost = z.lost.room; clashing = z.clashing.room; doubtful = z.doubtful.room }
 
@@ -184,29 +188,32 @@ module _ (w : ℕ → Verdict) (n : ℕ) where
     doubtful = bits_tell_none is_doubtful w n m.doubtful e.sized.doubtful e.doubtful;
   })
 
-  counts_next : (i : ℕ) {c d : Counts} → c ≡ counts_of w i 0 → d ≡ counting (w i) c → d ≡ counts_of w (suc i) 0
-  counts_next i e d = d ∙ ap (counting (w i)) e ∙ (λ j. record {
-    whole = sym (tally_next is_whole w i) j;
-    doubtful = sym (tally_next is_doubtful w i) j;
-    clashing = sym (tally_next is_clashing w i) j;
-    lost = sym (tally_next is_lost w i) j;
-    health = 0;
-  })
+  counts_next : (i : ℕ) {c : Counts} → c ≡ counts_of w i 0 → counting (kind_of (w i)) c ≡ counts_of w (suc i) 0
+  counts_next i e =
+      ap (counting (kind_of (w i))) e
+      ∙ counting_by (w i) (counts_of w i 0)
+      ∙ (λ j. record {
+        whole = sym (tally_next is_whole w i) j;
+        doubtful = sym (tally_next is_doubtful w i) j;
+        clashing = sym (tally_next is_clashing w i) j;
+        lost = sym (tally_next is_lost w i) j;
+        health = 0;
+      })
 
-  maps_next : {i : ℕ} {m : Maps} → MapsTell w n i m → i < n → MapsTell w n (suc i) (marking (w i) i m)
-  maps_next {i} {m} z h = record {
+  maps_next : {i : ℕ} {m : Maps} → MapsTell w n i m → i < n → MapsTell w n (suc i) (marking (kind_of (w i)) i m)
+  maps_next {i} {m} z h = subst (MapsTell w n (suc i)) (sym (marking_by (w i) i m)) (record {
     lost = bits_tell_next is_lost w n i m.lost z.lost h;
     clashing = bits_tell_next is_clashing w n i m.clashing z.clashing h;
     doubtful = bits_tell_next is_doubtful w n i m.doubtful z.doubtful h;
-  }
+  })
 
   -- a turn, by what its three calls ensure
-  pub loop_next : {i : ℕ} {c d : Counts} {m new : Maps} {j : Judged} → Loop w n i c m → i < n
-      → Tells j (w i) → CountsOne j c d → MarksOne j i m new → Loop w n (i + 1) d new
+  pub loop_next : {i : ℕ} {c d : Counts} {m new : Maps} {k : Kind} → Loop w n i c m → i < n
+      → k ≡ kind_of (w i) → d ≡ counting k c → new ≡ marking k i m → Loop w n (i + 1) d new
   loop_next {i} {c} {d} {m} {new} v lt e f g =
       subst (λ (k : ℕ). Loop w n k d new) (sym (add-one i))
-      (loop_at (suc i) d new (omega arith) v.count (counts_next i v.counts (f (w i) e))
-      (subst (MapsTell w n (suc i)) (sym (g (w i) e)) (maps_next v.told lt)))
+      (loop_at (suc i) d new (omega arith) v.count (f ∙ ap (λ (k : Kind). counting k c) e ∙ counts_next i v.counts)
+      (subst (MapsTell w n (suc i)) (sym (g ∙ ap (λ (k : Kind). marking k i m) e)) (maps_next v.told lt)))
 
   -- all of them, and their health
   pub loop_all : {i h : ℕ} {c : Counts} {m : Maps} → Loop w n i c m → n ≤ i → h ≡ health c.whole n
@@ -228,16 +235,7 @@ module _ (w : ℕ → Verdict) (n : ℕ) where
 
 -- ---- the prepared key
 
-pub verdict_by_lem : (w p : List ℕ) (ctx : Context) (volume s i : ℕ) (l g r out new : List ℕ) (j : Judged) → value ctx.tweak ≡ tweak volume i
-    → judged_by w p ctx (part s i l) (part 16 i g) (part s i r) out ≡ (judged_number j, new) → Tells j (verdict_by (scheme_of w p) volume s l g r i)
-verdict_by_lem w p ctx volume s i l g r out new j em e = record {
-  number =
-      ap (λ (x : ℕ × List ℕ). x.0) (sym e)
-      ∙ outcome_number (judge (scheme_of w p) (value ctx.tweak) (places_of s i l g r)) out
-      ∙ ap (λ (T : ℕ). verdict_number (judge (scheme_of w p) T (places_of s i l g r))) em;
-}
-
-pub survey_keyed : {k : Key} {t w p : List ℕ} {alpha beta : Block} → PreparedFor k t w p alpha beta → (volume s n : ℕ) (l g x list : List ℕ) {a : Report × List ℕ}
-    → surveyed (verdict_by (scheme_of w p) volume s l g x) n list ≡ a → surveyed (verdict_at (mirror k volume) s (triple l g x)) n list ≡ a
+pub survey_keyed : (k : Key) {S R : Scheme} → S ≡ R → R ≡ scheme k → (volume s n : ℕ) (v : Triple) (list : List ℕ) {a : Report × List ℕ}
+    → surveyed (λ i. judge S (tweak volume i) (sector_of s i v)) n list ≡ a → surveyed (verdict_at (mirror k volume) s v) n list ≡ a
 unfolding judge grade fits_two fits candidate mirror sealed scheme dcm
-survey_keyed e volume s n l g x list d = sym (ap (λ (S : Scheme). surveyed (verdict_by S volume s l g x) n list) (scheme_is e)) ∙ d
+survey_keyed k lent prepared volume s n v list d = sym (ap (λ (U : Scheme). surveyed (λ i. judge U (tweak volume i) (sector_of s i v)) n list) (lent ∙ prepared)) ∙ d

@@ -1,65 +1,48 @@
 -- What the inner functions give. Assumes nothing: these are definitions.
-use Rattle.std.specs.Prelude.{◌≡◌, Bool, true, false, cond, List, ◌++◌, ℕ, ◌*◌, ◌≤◌, length}
+use Rattle.std.specs.Prelude.{◌≡◌, true, false, List, ◌++◌, ℕ, ◌+◌, ◌*◌, ◌≤◌, length}
 use Rattle.bits.specs.Bits.{bit, mark}
 use Rattle.mode.specs.Sealing.{tweak}
 use Rattle.mode.specs.Scheme.{Scheme}
-use Rattle.answers.specs.declared.Judged.{Judged}
-use Rattle.answers.specs.Answers.{judged_number}
-use Rattle.verdict.specs.Judging.{verdict_number}
-use Rattle.verdict.specs.Verdict.{Verdict, judge}
+use Rattle.answers.specs.Lent.{triple_of}
+use Rattle.verdict.specs.Verdict.{Verdict, whole, doubtful, lost, clashing, judge}
 use Rattle.history.specs.Answers.{is_whole, is_doubtful, is_clashing, is_lost}
-use Rattle.images.specs.Lent.{places_of}
+use Rattle.history.specs.Volume.{sector_of}
 use Rattle.report.specs.declared.Counts.{Counts}
-use Rattle.report.specs.Inner.{add_if}
+use Rattle.survey.specs.declared.lent.Images.{Images}
+use Rattle.survey.specs.declared.maps.Kind.{Kind}
+use Rattle.survey.specs.declared.maps.Kind.TheVariants.{Whole, Doubtful, Clashing, Lost}
+use Rattle.survey.specs.declared.maps.Maps.{Maps}
 use Rattle.report.specs.Survey.{chosen, numbers, tally, health, counts_of}
 
 -- the verdicts by the mode, with the tweak of the volume and of each sector's number
-abbrev pub verdict_by : Scheme → ℕ → ℕ → List ℕ → List ℕ → List ℕ → ℕ → Verdict
-verdict_by S volume s l g r i = judge S (tweak volume i) (places_of s i l g r)
+abbrev pub verdict_by : Scheme → ℕ → Images → ℕ → Verdict
+verdict_by S volume images i = judge S (tweak volume i) (sector_of images.size i (triple_of images.places))
 
--- the code's answer is that of the verdict w
-pub record Tells (j : Judged) (w : Verdict) : Type 0 where
-  pub number : judged_number j ≡ verdict_number w
+-- the kind that the survey keeps of a verdict
+abbrev pub kind_of : Verdict → Kind
+kind_of (whole P) = Whole
+kind_of (doubtful d P) = Doubtful
+kind_of lost = Lost
+kind_of clashing = Clashing
 
--- one more sector, with the verdict w
-abbrev pub counting : Verdict → Counts → Counts
-counting w c = record {
-  whole = add_if (is_whole w) c.whole;
-  doubtful = add_if (is_doubtful w) c.doubtful;
-  clashing = add_if (is_clashing w) c.clashing;
-  lost = add_if (is_lost w) c.lost;
-  health = c.health;
-}
-
--- r counts one more sector than c, the one of which j tells the verdict
-abbrev pub CountsOne : Judged → Counts → Counts → Type 0
-CountsOne j c r = (w : Verdict) → Tells j w → r ≡ counting w c
+-- one more sector of a kind
+abbrev pub counting : Kind → Counts → Counts
+counting Whole c = record c { whole = c.whole + 1 }
+counting Doubtful c = record c { doubtful = c.doubtful + 1 }
+counting Clashing c = record c { clashing = c.clashing + 1 }
+counting Lost c = record c { lost = c.lost + 1 }
 
 -- ---- what was found, as bits: bit i for sector i, a map for each kind
-
-pub record Maps : Type 0 where
-  pub lost : List ℕ
-  pub clashing : List ℕ
-  pub doubtful : List ℕ
 
 abbrev pub maps : List ℕ → List ℕ → List ℕ → Maps
 maps l c d = record { lost = l; clashing = c; doubtful = d }
 
--- with number i in the map, if so
-abbrev pub mark_if : Bool → ℕ → List ℕ → List ℕ
-mark_if b i m = cond b (mark i true m) m
-
--- sector i, with the verdict w, in the map of its kind
-abbrev pub marking : Verdict → ℕ → Maps → Maps
-marking w i m = record {
-  lost = mark_if (is_lost w) i m.lost;
-  clashing = mark_if (is_clashing w) i m.clashing;
-  doubtful = mark_if (is_doubtful w) i m.doubtful;
-}
-
--- number i is now in the map of the kind that j tells, or in none if j tells whole; all else is as it was
-abbrev pub MarksOne : Judged → ℕ → Maps → Maps → Type 0
-MarksOne j i old new = (w : Verdict) → Tells j w → new ≡ marking w i old
+-- sector i in the map of its kind, or in none if it is whole; all else is as it was
+abbrev pub marking : Kind → ℕ → Maps → Maps
+marking Whole i m = m
+marking Doubtful i m = record m { doubtful = mark i true m.doubtful }
+marking Clashing i m = record m { clashing = mark i true m.clashing }
+marking Lost i m = record m { lost = mark i true m.lost }
 
 -- the maps have room for n numbers,
 pub record Sized (n : ℕ) (m : Maps) : Type 0 where

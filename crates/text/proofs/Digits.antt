@@ -4,12 +4,12 @@ use mathlib.Core.Bool.{Bool, true, false, ◌&&◌, ◌||◌, cond}
 use mathlib.Core.List.{List, [], ◌∷◌, ◌++◌}
 use Prim.Native.Nat.{ℕ, zero, suc, ◌+◌, ◌*◌, ◌-◌, ◌/◌, ◌%◌, ◌≤◌, ◌<◌}
 use native.Mathlib.Decide.{dec_lt}
-use native.Mathlib.Numerals.{add-one}
 use native.Mathlib.Omega.{arith}
-use lib.Dec.{eqb, leb}
-use lib.ListN.{length, take, drop, get_or, set, length-set, drop_of_length-le}
-use lib.Seq.{drop-cons}
-use borrow.Author.Tests.{leb-true, le-leb, lt-leb, eq-eqb, ne_eqb}
+use lib.Dec.{leb, eqb}
+use lib.ListN.{length, take, drop, get_or, set, length-set}
+use Rattle.std.specs.Prelude.{Option, Some, None, if◌then◌else◌, is_some}
+use Rattle.std.specs.List.{list_all}
+use borrow.Author.Tests.{leb-true, le-leb, lt-leb, eq-eqb}
 use Rattle.block.proofs.Lists.{false-true, clash, and_left, and_right, and_both, fill_turn, fill_end}
 use Rattle.text.specs.Digits.{between, is_digit, digit_value, all_digits, decode}
 
@@ -26,35 +26,51 @@ outside a b c h = go (leb a c) (leb c b) refl refl
 inside : (a b c : ℕ) → a ≤ c → c ≤ b → between a b c ≡ true
 inside a b c h k = and_both (leb a c) (leb c b) (le-leb a c h) (le-leb c b k)
 
+-- a digit and its value
+abbrev Digit : ℕ → ℕ → Type 0
+Digit c v = (is_digit c ≡ true) × (digit_value c ≡ v)
+
+decimal_digit : (c : ℕ) → 48 ≤ c → c ≤ 57 → Digit c (c - 48)
+unfolding is_digit digit_value
+decimal_digit c h k = (simp (inside 48 57 c h k), simp (le-leb c 57 k))
+
+upper_digit : (c : ℕ) → 65 ≤ c → c ≤ 70 → Digit c (c - 55)
+unfolding is_digit digit_value
+upper_digit c h k =
+    (simp (outside 48 57 c (λ p q. omega arith), inside 65 70 c h k), simp (lt-leb c 57 (omega arith), le-leb c 70 k))
+
+lower_digit : (c : ℕ) → 97 ≤ c → c ≤ 102 → Digit c (c - 87)
+unfolding is_digit digit_value
+lower_digit c h k = (
+  simp (outside 48 57 c (λ p q. omega arith), outside 65 70 c (λ p q. omega arith), inside 97 102 c h k),
+  simp (lt-leb c 57 (omega arith), lt-leb c 70 (omega arith)),
+)
+
 -- what the code works out
-abbrev value_of : ℕ → ℕ
-value_of c = cond (is_digit c) (digit_value c) 16
+abbrev value_of : ℕ → Option ℕ
+value_of c = if is_digit c then Some (digit_value c) else None
 
-as_digit : (c v : ℕ) → is_digit c ≡ true → digit_value c ≡ v → v ≡ value_of c
-as_digit c v e f = sym f ∙ ap (λ b. cond b (digit_value c) 16) (sym e)
+as_digit : (c v w : ℕ) → Digit c v → w ≡ v → Some w ≡ value_of c
+as_digit c v w d e = ap Some (e ∙ sym d.1) ∙ ap (λ b. if b then Some (digit_value c) else None) (sym d.0)
 
-pub decimal : (c : ℕ) → 48 ≤ c → c ≤ 57 → c - 48 ≡ value_of c
-unfolding is_digit digit_value
-decimal c h k = as_digit c (c - 48) (simp (inside 48 57 c h k)) (simp (le-leb c 57 k))
+pub decimal : (c : ℕ) → 48 ≤ c → c ≤ 57 → Some (c - 48) ≡ value_of c
+decimal c h k = as_digit c (c - 48) (c - 48) (decimal_digit c h k) refl
 
-pub upper : (c : ℕ) → 65 ≤ c → c ≤ 70 → c - 55 ≡ value_of c
-unfolding is_digit digit_value
-upper c h k =
-    as_digit c (c - 55) (simp (outside 48 57 c (λ p q. omega arith), inside 65 70 c h k))
-    (simp (lt-leb c 57 (omega arith), le-leb c 70 k))
+pub upper : (c : ℕ) → 65 ≤ c → c ≤ 70 → Some (c - 65 + 10) ≡ value_of c
+upper c h k = as_digit c (c - 55) (c - 65 + 10) (upper_digit c h k) (omega arith)
 
-pub lower : (c : ℕ) → 97 ≤ c → c ≤ 102 → c - 87 ≡ value_of c
-unfolding is_digit digit_value
-lower c h k =
-    as_digit c (c - 87) (simp (outside 48 57 c (λ p q. omega arith), outside 65 70 c (λ p q. omega arith), inside 97 102 c h k))
-    (simp (lt-leb c 57 (omega arith), lt-leb c 70 (omega arith)))
+pub lower : (c : ℕ) → 97 ≤ c → c ≤ 102 → Some (c - 97 + 10) ≡ value_of c
+lower c h k = as_digit c (c - 87) (c - 97 + 10) (lower_digit c h k) (omega arith)
 
 no_digit : (c : ℕ) → (48 ≤ c → c ≤ 57 → ⊥) → (65 ≤ c → c ≤ 70 → ⊥) → (97 ≤ c → c ≤ 102 → ⊥) → is_digit c ≡ false
 unfolding is_digit
 no_digit c f g h = simp (outside 48 57 c f, outside 65 70 c g, outside 97 102 c h)
 
-pub other : (c : ℕ) → (48 ≤ c → c ≤ 57 → ⊥) → (65 ≤ c → c ≤ 70 → ⊥) → (97 ≤ c → c ≤ 102 → ⊥) → 16 ≡ value_of c
-other c f g h = ap (λ b. cond b (digit_value c) 16) (sym (no_digit c f g h))
+pub other : (c : ℕ) → (48 ≤ c → c ≤ 57 → ⊥) → (65 ≤ c → c ≤ 70 → ⊥) → (97 ≤ c → c ≤ 102 → ⊥) → None ≡ value_of c
+other c f g h = ap (λ b. if b then Some (digit_value c) else None) (sym (no_digit c f g h))
+
+-- what `digit_value` answers
+pub ruleset digit_values = (decimal, upper, lower, other)
 
 digit_small : (c : ℕ) → is_digit c ≡ true → digit_value c ≤ 15
 unfolding digit_value
@@ -72,79 +88,45 @@ bounds a b c e = (leb-true a c (and_left (leb a c) (leb c b) e), leb-true c b (a
 -- the value of a byte that is a digit, without a branch
 pub known : (c : ℕ) → is_digit c ≡ true → c % 16 + 9 * (c / 64) ≡ digit_value c
 unfolding is_digit
-known c e = go (between 48 57 c) (between 65 70 c) (between 97 102 c) refl refl refl e ∙ ap (λ b. cond b (digit_value c) 16) e
+known c e = go (between 48 57 c) (between 65 70 c) (between 97 102 c) refl refl refl e
   where
     go : (p q r : Bool) → between 48 57 c ≡ p → between 65 70 c ≡ q → between 97 102 c ≡ r → (p || (q || r)) ≡ true
-        → c % 16 + 9 * (c / 64) ≡ value_of c
+        → c % 16 + 9 * (c / 64) ≡ digit_value c
     go true q r f g h k =
         let w = bounds 48 57 c f in
         let v : c % 16 + 9 * (c / 64) ≡ c - 48 = omega arith in
-        v ∙ decimal c w.0 w.1
+        v ∙ sym (decimal_digit c w.0 w.1).1
     go false true r f g h k =
         let w = bounds 65 70 c g in
         let v : c % 16 + 9 * (c / 64) ≡ c - 55 = omega arith in
-        v ∙ upper c w.0 w.1
+        v ∙ sym (upper_digit c w.0 w.1).1
     go false false true f g h k =
         let w = bounds 97 102 c h in
         let v : c % 16 + 9 * (c / 64) ≡ c - 87 = omega arith in
-        v ∙ lower c w.0 w.1
+        v ∙ sym (lower_digit c w.0 w.1).1
     go false false false f g h k = false-true k
 
--- what the code's test of the value says
-digit_yes : (c v : ℕ) → v ≡ value_of c → v ≤ 15 → is_digit c ≡ true
-digit_yes c v e h = go (is_digit c) refl e
-  where
-    go : (b : Bool) → is_digit c ≡ b → v ≡ cond b (digit_value c) 16 → is_digit c ≡ true
-    go true f k = f
-    go false f k = absurd (omega arith)
+pub known_small : (c : ℕ) → is_digit c ≡ true → c % 16 + 9 * (c / 64) < 16
+known_small c e = omega (arith, known c e, digit_small c e)
 
-digit_no : (c v : ℕ) → v ≡ value_of c → 15 < v → is_digit c ≡ false
-digit_no c v e h = go (is_digit c) refl e
-  where
-    go : (b : Bool) → is_digit c ≡ b → v ≡ cond b (digit_value c) 16 → is_digit c ≡ false
-    go true f k = absurd (omega (arith, digit_small c f))
-    go false f k = f
+pub ruleset known_values = (known, known_small)
+
+-- what the code's test of the value says
+pub some_digit : (c : ℕ) → is_some (value_of c) ≡ is_digit c
+some_digit c = elim (is_digit c) as (λ b. is_some (if b then Some (digit_value c) else None) ≡ b) [ true ↦ refl | false ↦ refl ]
 
 -- ---- the test of a line
 
-digits_here : (l : List ℕ) (i : ℕ) → i < length l → all_digits (drop i l) ≡ (is_digit (get_or l i 0) && all_digits (drop (i + 1) l))
+pub digits_all : (l : List ℕ) → list_all is_digit l ≡ all_digits l
 unfolding all_digits
-digits_here l i h =
-    ap all_digits (drop-cons l i 0 h)
-    ∙ ap (λ (k : ℕ). is_digit (get_or l i 0) && all_digits (drop k l)) (sym (add-one i))
-
--- the loop: whether all bytes are digits is whether those from i on are
-module _ (l : List ℕ) (i : ℕ) (I : all_digits (drop i l) ≡ all_digits l) where
-  module _ (v : ℕ) (h : i < length l) (e : v ≡ value_of (get_or l i 0)) where
-    pub digits_turn : v ≤ 15 → all_digits (drop (i + 1) l) ≡ all_digits l
-    digits_turn k = ap (λ (b : Bool). b && all_digits (drop (i + 1) l)) (sym (digit_yes (get_or l i 0) v e k)) ∙ sym (digits_here l i h) ∙ I
-
-    pub digits_no : 15 < v → false ≡ all_digits l
-    digits_no k = ap (λ (b : Bool). b && all_digits (drop (i + 1) l)) (sym (digit_no (get_or l i 0) v e k)) ∙ sym (digits_here l i h) ∙ I
-
-  pub digits_end : length l ≤ i → true ≡ all_digits l
-  unfolding all_digits
-  digits_end h = sym (ap all_digits (drop_of_length-le l h)) ∙ I
+digits_all [] = refl
+digits_all (c ∷ cs) = ap (λ (b : Bool). is_digit c && b) (digits_all cs)
 
 pub digit_at : (l : List ℕ) (i : ℕ) → i < length l → all_digits l ≡ true → is_digit (get_or l i 0) ≡ true
 unfolding all_digits
 digit_at [] i h e = absurd (omega arith)
 digit_at (c ∷ cs) zero h e = and_left (is_digit c) (all_digits cs) e
 digit_at (c ∷ cs) (suc i) h e = digit_at cs i (omega arith) (and_right (is_digit c) (all_digits cs) e)
-
--- the values of a pair of bytes of such a line
-pub record Pair (l : List ℕ) (i x y : ℕ) : Type 0 where
-  pub high : x ≡ digit_value (get_or l (2 * i) 0)
-  pub low : y ≡ digit_value (get_or l (2 * i + 1) 0)
-  pub high_small : x ≤ 15
-  pub low_small : y ≤ 15
-
-pub pair_at : (l : List ℕ) (i x y : ℕ) → 2 * i + 1 < length l → all_digits l ≡ true
-    → x ≡ digit_value (get_or l (2 * i) 0) → y ≡ digit_value (get_or l (2 * i + 1) 0) → Pair l i x y
-pair_at l i x y h e ex ey =
-    let p = digit_small (get_or l (2 * i) 0) (digit_at l (2 * i) (omega arith) e) in
-    let q = digit_small (get_or l (2 * i + 1) 0) (digit_at l (2 * i + 1) h e) in
-    record { high = ex; low = ey; high_small = omega arith; low_small = omega arith }
 
 -- ---- the bytes of digits
 
@@ -175,27 +157,25 @@ pub decoding_start : (line d : List ℕ) → Decoding line d d 0
 decoding_start line d = record { within = omega arith; long = refl; bytes = refl }
 
 module _ (line d f : List ℕ) (i : ℕ) (long : length line ≡ 2 * length d) (I : Decoding line d f i) where
-  pub decoding_turn : (x y : ℕ) → i < length f → Pair line i x y → Decoding line d (set f i (x * 16 + y)) (i + 1)
-  decoding_turn x y lt p =
+  pub decoding_turn : (x y : ℕ) → i < length f → x ≡ digit_value (get_or line (2 * i) 0) → y ≡ digit_value (get_or line (2 * i + 1) 0)
+      → Decoding line d (set f i (x * 16 + y)) (i + 1)
+  decoding_turn x y lt high low =
       record {
         within = simp length-set (omega arith);
         long = simp length-set I.long;
         bytes = ap (λ (l : List ℕ). set l i (x * 16 + y)) I.bytes
             ∙ fill_turn (decode line) d i (x * 16 + y) (omega (arith, length-decode line)) (omega arith)
-            (ap₂ (λ (s t : ℕ). s * 16 + t) p.high p.low ∙ sym (decode_at line i (omega arith)));
+            (ap₂ (λ (s t : ℕ). s * 16 + t) high low ∙ sym (decode_at line i (omega arith)));
       }
 
   pub decoding_end : length f ≤ i → f ≡ decode line
   decoding_end h = I.bytes ∙ fill_end (decode line) d i (omega (arith, length-decode line)) (omega arith)
 
--- ---- whether a line decodes into d
+-- the loop but for its turn
+pub ruleset decodings = (digit_at, decoding_start, decoding_end)
 
-module _ (line d : List ℕ) where
-  abbrev decodes : Bool
-  decodes = eqb (length line) (2 * length d) && all_digits line
+-- ---- whether a line decodes into bytes
 
-  pub other_length : (length line ≡ 2 * length d → ⊥) → false ≡ decodes
-  other_length h = ap (λ (b : Bool). b && all_digits line) (sym (ne_eqb (length line) (2 * length d) h))
-
-  pub by_digits : length line ≡ 2 * length d → all_digits line ≡ decodes
-  by_digits h = ap (λ (b : Bool). b && all_digits line) (sym (eq-eqb (length line) (2 * length d) h))
+-- where its length is right
+pub by_digits : (line d : List ℕ) → length line ≡ 2 * length d → all_digits line ≡ (eqb (length line) (2 * length d) && all_digits line)
+by_digits line d h = ap (λ (b : Bool). b && all_digits line) (sym (eq-eqb (length line) (2 * length d) h))

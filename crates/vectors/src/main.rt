@@ -7,7 +7,17 @@ ghost use Rattle.block.specs.Value.{value};
 ghost use Rattle.fips197.specs.Aes.{expand, cipher_number};
 
 use block::Block;
-use std::io;
+use std::{fmt, io};
+
+// A block that is printed as its 32 hexadecimal digits.
+#[derive(Drop)]
+struct Hex(Block);
+
+impl fmt::Display for Hex {
+    fn fmt<W: fmt::Write>(&self, f: &mut fmt::Formatter<W>) -> fmt::Result {
+        write!(f, "{:016x}{:016x}", self.0.hi, self.0.lo)
+    }
+}
 
 fn encrypted(key: &[u8], b: Block) -> Block
     requires { length key.now ≡ 16 }
@@ -19,21 +29,13 @@ fn encrypted(key: &[u8], b: Block) -> Block
     aes::encrypt(&t, &w, b)
 }
 
-fn print_block(rt: &impl Print, b: Block) -> io::Result<()> {
-    let hi = b.hi;
-    let lo = b.lo;
-    print!(rt; "{hi:016x}{lo:016x}")
-}
-
 fn print_example(rt: &impl Print, key: &[u8], b: Block) -> io::Result<()>
     requires { length key.now ≡ 16 }
 {
-    print_block(rt, block::load(key, 0))?;
-    print!(rt; " ")?;
-    print_block(rt, b)?;
-    print!(rt; " ")?;
-    print_block(rt, encrypted(key, b))?;
-    println!(rt)
+    let k = Hex(Block::load(key, 0));
+    let plaintext = Hex(b);
+    let ciphertext = Hex(encrypted(key, b));
+    println!(rt; "{k} {plaintext} {ciphertext}")
 }
 
 fn main(rt: HostRuntime) -> io::Result<()> {

@@ -2,17 +2,14 @@
 use Rattle.std.specs.Prelude.{◌≡◌, true, false, List, [], ℕ}
 use Rattle.std.proofs.Math.Option.{Option, none, some}
 use Rattle.block.specs.Bytes.{xor_bytes}
-use Rattle.block.specs.Value.{value}
-use Rattle.mode.specs.declared.Context.{Context}
 use Rattle.mode.specs.declared.Direction.{Direction}
 use Rattle.mode.specs.declared.Direction.TheVariants.{SealLocal, SealRemote, OpenLocal, OpenRemote}
-use Rattle.mode.specs.Prepared.{scheme_of}
-use Rattle.mode.specs.Scheme.{Place, tag, remote}
-use Rattle.mode.specs.Sealing.{triple}
+use Rattle.mode.specs.Scheme.{Place, tag, remote, Scheme}
+use Rattle.mode.specs.Sealing.{Triple}
 use Rattle.answers.specs.Answers.{found_number}
 use Rattle.answers.specs.Rules.{settle}
-use Rattle.verdict.specs.declared.Side as D
-use Rattle.verdict.specs.declared.Side.TheVariants.{Local, Remote}
+use Rattle.answers.specs.declared.side.Side as D
+use Rattle.answers.specs.declared.side.Side.TheVariants.{Local, Remote}
 use Rattle.verdict.specs.Verdict.{Verdict, whole, doubtful, lost, clashing, fits, judge, Side, local_side, remote_side}
 
 -- the side that the code's enum names
@@ -62,15 +59,15 @@ abbrev pub verdict_number : Verdict → ℕ
 verdict_number v = (verdict_outcome v []).0
 
 -- what judging answers and leaves
-abbrev pub judged_by : List ℕ → List ℕ → Context → List ℕ → List ℕ → List ℕ → List ℕ → ℕ × List ℕ
-judged_by w powers ctx l g r out = verdict_outcome (judge (scheme_of w powers) (value ctx.tweak) (triple l g r)) out
+abbrev pub judged_by : Scheme → ℕ → Triple → List ℕ → ℕ × List ℕ
+judged_by S T t out = verdict_outcome (judge S T t) out
 
 -- local ⊕ remote fits both sides, and not the tag
-pub record SumFits (w powers : List ℕ) (ctx : Context) (l g r sum : List ℕ) : Type 0 where
-  pub is_sum : sum ≡ xor_bytes l r
-  pub fits_remote : fits (scheme_of w powers) (value ctx.tweak) (triple l g r) remote sum ≡ true
-  pub fits_no_tag : fits (scheme_of w powers) (value ctx.tweak) (triple l g r) tag sum ≡ false
+pub record SumFits (S : Scheme) (T : ℕ) (t : Triple) (sum : List ℕ) : Type 0 where
+  pub is_sum : sum ≡ xor_bytes t.local t.remote
+  pub fits_remote : fits S T t remote sum ≡ true
+  pub fits_no_tag : fits S T t tag sum ≡ false
 
 -- local ⊕ remote does not fit the sides
-unfoldable pub SumFails : List ℕ → List ℕ → Context → List ℕ → List ℕ → List ℕ → Type 0
-SumFails w powers ctx l g r = fits (scheme_of w powers) (value ctx.tweak) (triple l g r) remote (xor_bytes l r) ≡ false
+unfoldable pub SumFails : Scheme → ℕ → Triple → Type 0
+SumFails S T t = fits S T t remote (xor_bytes t.local t.remote) ≡ false

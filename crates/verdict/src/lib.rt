@@ -5,24 +5,21 @@
 ghost use Rattle.std.specs.Prelude.{◌≡◌, length};
 ghost use Rattle.block.specs.Bytes.{same};
 ghost use Rattle.block.specs.Value.{value};
-ghost use Rattle.mode.specs.Prepared.{Ready, scheme_of};
+ghost use Rattle.mode.specs.Lent.{scheme_lent};
 ghost use Rattle.answers.specs.Answers.{judged_number};
+ghost use Rattle.answers.specs.Lent.{triple_of};
 ghost use Rattle.answers.specs.Passing.{Sizes};
 ghost use Rattle.verdict.specs.Judging.{side_named, opening_of, judged_by, SumFits, SumFails};
 ghost use Rattle.verdict.specs.Verdict.{side_of, open_side};
 
-use aes::Table;
-use answers::{Judged, Place, Refusal};
-use mode::{Context, Direction};
+mod part;
 
-// A side of a sector. It is a number only where a caller gives it.
-#[derive(Clone, Copy)]
-pub enum Side {
-    Local,
-    Remote,
-}
+use answers::{Found, Place, Refusal, Side};
+use block::Block;
+use mode::{Direction, Keyed};
+pub use part::Part;
 
-// The side with this number, 0 or 1.
+// The side with this number, 0 or 1, of a number that is checked; `Side::try_from` is the check.
 pub fn side_numbered(number: u32) -> Side
     ensures { side_named result ≡ side_of number }
 {
@@ -33,7 +30,7 @@ pub fn side_numbered(number: u32) -> Side
     }
 }
 
-// How a side is opened.
+// How a side is opened. It is no method, since `Side` is another crate's.
 fn opening(side: Side) -> Direction
     ensures { result ≡ opening_of (side_named side) }
 {
@@ -44,119 +41,118 @@ fn opening(side: Side) -> Direction
 }
 
 // Opens the side x with the tag into `out`, and says whether what it gives has that tag.
-pub fn opens(
-    t: &Table,
-    w: &[u32],
-    powers: &[u64; 18],
-    ctx: Context,
-    side: Side,
-    x: &[u8],
-    tag: &[u8],
-    out: &mut [u8],
-) -> bool
-    requires { Ready t.now w.now powers.now ctx × Sizes (length x.now) (length out.old) (length out.old) (length tag.now) }
-    ensures { (out.new ≡ open_side (scheme_of w.now powers.now) (side_named side) tag.now x.now) × (result ≡ same tag.now ((scheme_of w.now powers.now).sealed (value ctx.tweak) out.new).tag) }
+#[tactic(auto, using(block::proofs::Lists::bytes_all, crate::proofs::Sides::side_opened))]
+pub fn opens(keyed: &Keyed, tweak: Block, side: Side, x: &[u8], tag: &[u8], out: &mut [u8]) -> bool
+    requires { Sizes (length x.now) (length out.old) (length out.old) (length tag.now) }
+    ensures opened { out.new ≡ open_side (scheme_lent keyed.now) (side_named side) tag.now x.now }
+    ensures has_tag { result ≡ same tag.now ((scheme_lent keyed.now).sealed (value tweak) out.new).tag }
 {
-    let g = block::load(tag, 0);
-    mode::transform(t, w, ctx.beta, opening(side), g, x, out);
-    block::equal(mode::tag_block(t, w, powers, ctx, &out[..]), g)
+    let expected = Block::load(tag, 0);
+    mode::transform(&keyed.pads, opening(side), expected, x, out);
+    mode::tag_block(keyed, tweak, &out[..]) == expected
+}
+
+// Copies a slice to one of its length. By `copy_from_slice` the archive needs memmove, and it is to need memcpy and memset alone.
+fn copy(from: &[u8], to: &mut [u8])
+    requires { length to.old ≡ length from.now }
+    ensures { to.new ≡ from.now }
+{
+    for i in 0..from.len() {
+        to[i] = from[i];
+    }
 }
 
 // Judges where local ⊕ remote, in `sum`, fits both sides and not the tag: it is the one plaintext unless a side and the tag give another.
+#[tactic(auto, using(block::proofs::Lists::length_xor, crate::proofs::Judging::clash_left, crate::proofs::Judging::clash_right))]
 fn judge_fitting_sum(
-    t: &Table,
-    w: &[u32],
-    powers: &[u64; 18],
-    ctx: Context,
-    local: &[u8],
-    tag: &[u8],
-    remote: &[u8],
+    keyed: &Keyed,
+    tweak: Block,
+    part: &Part,
     out: &mut [u8],
     sum: &[u8],
     scratch: &mut [u8],
-) -> Judged
-    requires { Ready t.now w.now powers.now ctx × Sizes (length local.now) (length remote.now) (length out.old) (length tag.now) × (length scratch.old ≡ length local.now) × SumFits w.now powers.now ctx local.now tag.now remote.now sum.now }
-    ensures { judged_by w.now powers.now ctx local.now tag.now remote.now out.old ≡ (judged_number result, out.new) }
+) -> Result<Found, Refusal>
+    requires { (length out.old ≡ length part.now.places.local.now) × (length scratch.old ≡ length part.now.places.local.now)
+        × SumFits (scheme_lent keyed.now) (value tweak) (triple_of part.now.places) sum.now }
+    ensures { judged_by (scheme_lent keyed.now) (value tweak) (triple_of part.now.places) out.old ≡ (judged_number result, out.new) }
 {
-    if opens(t, w, powers, ctx, Side::Local, local, tag, scratch) {
-        return Judged::Refused(Refusal::Clashing);
+    let places = part.places;
+    let from_local = opens(keyed, tweak, Side::Local, places.local, places.tag, scratch);
+    if from_local {
+        return Err(Refusal::Clashing);
     }
-    if opens(t, w, powers, ctx, Side::Remote, remote, tag, scratch) {
-        return Judged::Refused(Refusal::Clashing);
+    let from_remote = opens(
+        keyed,
+        tweak,
+        Side::Remote,
+        places.remote,
+        places.tag,
+        scratch,
+    );
+    if from_remote {
+        return Err(Refusal::Clashing);
     }
-    block::copy(sum, out);
-    Judged::Doubtful(Place::Tag)
+    copy(sum, out);
+    Ok(Found::Doubtful(Place::Tag))
 }
 
 // Judges where local ⊕ remote does not fit the sides: only what a side and the tag give can fit two places.
 fn judge_failing_sum(
-    t: &Table,
-    w: &[u32],
-    powers: &[u64; 18],
-    ctx: Context,
-    local: &[u8],
-    tag: &[u8],
-    remote: &[u8],
+    keyed: &Keyed,
+    tweak: Block,
+    part: &Part,
     out: &mut [u8],
     left: &mut [u8],
     right: &mut [u8],
-) -> Judged
-    requires { Ready t.now w.now powers.now ctx × Sizes (length local.now) (length remote.now) (length out.old) (length tag.now) × (length left.old ≡ length local.now) × (length right.old ≡ length local.now) × SumFails w.now powers.now ctx local.now tag.now remote.now }
-    ensures { judged_by w.now powers.now ctx local.now tag.now remote.now out.old ≡ (judged_number result, out.new) }
+) -> Result<Found, Refusal>
+    requires { (length out.old ≡ length part.now.places.local.now) × (length left.old ≡ length part.now.places.local.now)
+        × (length right.old ≡ length part.now.places.local.now)
+        × SumFails (scheme_lent keyed.now) (value tweak) (triple_of part.now.places) }
+    ensures { judged_by (scheme_lent keyed.now) (value tweak) (triple_of part.now.places) out.old ≡ (judged_number result, out.new) }
 {
-    let from_local = opens(t, w, powers, ctx, Side::Local, local, tag, left);
-    let from_remote = opens(t, w, powers, ctx, Side::Remote, remote, tag, right);
-    if from_local {
-        if from_remote {
-            return Judged::Refused(Refusal::Clashing);
+    let places = part.places;
+    let from_local = opens(keyed, tweak, Side::Local, places.local, places.tag, left);
+    let from_remote = opens(keyed, tweak, Side::Remote, places.remote, places.tag, right);
+    match (from_local, from_remote) {
+        (true, true) => Err(Refusal::Clashing),
+        (true, false) => {
+            copy(&left[..], out);
+            Ok(Found::Doubtful(Place::Remote))
         }
-        block::copy(&left[..], out);
-        return Judged::Doubtful(Place::Remote);
+        (false, true) => {
+            copy(&right[..], out);
+            Ok(Found::Doubtful(Place::Local))
+        }
+        (false, false) => Err(Refusal::Lost),
     }
-    if from_remote {
-        block::copy(&right[..], out);
-        return Judged::Doubtful(Place::Local);
-    }
-    Judged::Refused(Refusal::Lost)
 }
 
 // Judges in two scratch slices. The sum local ⊕ remote comes first: where it fits all three places nothing else can fit two, so a whole
 // sector costs one hash and one pad a block.
-pub fn judge_in<'k>(
-    t: &Table,
-    w: &'k [u32],
-    powers: &'k [u64; 18],
-    ctx: Context,
-    local: &[u8],
-    tag: &[u8],
-    remote: &[u8],
+// The two scratch slices stay parameters: a struct of two `&mut` is no plainer, since it would be taken apart here again.
+#[tactic(auto, using(crate::proofs::Judging::sum_fits_remote, crate::proofs::Judging::sum_misses_tag, crate::proofs::Judging::sum_fails))]
+pub fn judge_in(
+    keyed: &Keyed,
+    tweak: Block,
+    part: &Part,
     out: &mut [u8],
     sum: &mut [u8],
     scratch: &mut [u8],
-) -> Judged
-    requires { Ready t.now w.now powers.now ctx × Sizes (length local.now) (length remote.now) (length out.old) (length tag.now) × (length sum.old ≡ length local.now) × (length scratch.old ≡ length local.now) }
-    ensures { judged_by w.now powers.now ctx local.now tag.now remote.now out.old ≡ (judged_number result, out.new) }
+) -> Result<Found, Refusal>
+    requires { (length out.old ≡ length part.now.places.local.now) × (length sum.old ≡ length part.now.places.local.now)
+        × (length scratch.old ≡ length part.now.places.local.now) }
+    ensures { judged_by (scheme_lent keyed.now) (value tweak) (triple_of part.now.places) out.old ≡ (judged_number result, out.new) }
 {
-    block::xor_bytes(local, remote, sum);
-    let g = mode::tag_block(t, w, powers, ctx, &sum[..]);
-    mode::transform(t, w, ctx.beta, Direction::SealRemote, g, &sum[..], scratch);
-    if block::same(remote, &scratch[..]) {
-        if block::equal(g, block::load(tag, 0)) {
-            block::copy(&sum[..], out);
-            return Judged::Whole;
+    let places = part.places;
+    block::xor_bytes(places.local, places.remote, sum);
+    let tag = mode::tag_block(keyed, tweak, &sum[..]);
+    mode::transform(&keyed.pads, Direction::SealRemote, tag, &sum[..], scratch);
+    if places.remote == &scratch[..] {
+        if tag == Block::load(places.tag, 0) {
+            copy(&sum[..], out);
+            return Ok(Found::Whole);
         }
-        return judge_fitting_sum(
-            t,
-            w,
-            powers,
-            ctx,
-            local,
-            tag,
-            remote,
-            out,
-            &sum[..],
-            scratch,
-        );
+        return judge_fitting_sum(keyed, tweak, part, out, &sum[..], scratch);
     }
-    judge_failing_sum(t, w, powers, ctx, local, tag, remote, out, sum, scratch)
+    judge_failing_sum(keyed, tweak, part, out, sum, scratch)
 }

@@ -1,98 +1,113 @@
--- The calls' outcomes where the early checks refuse, and where they pass. Assumes nothing.
-use mathlib.Core.Path.{◌≡◌, sym, ap, ◌∙◌, subst}
-use mathlib.Core.Bool.{true}
+-- The calls' outcomes by what the early checks decide, and what passing them shows. Assumes nothing.
+use mathlib.Core.Path.{◌≡◌, refl, sym, ap, ◌∙◌, subst}
+use mathlib.Core.Bool.{Bool, true}
 use mathlib.Core.List.{List, ◌++◌}
-use Prim.Native.Nat.{ℕ, ◌≤◌}
-use lib.ListN.{length, take, replicate}
-use Rattle.block.proofs.Lists.{take_zeros}
+use mathlib.Core.Option.{Option, none, some}
+use Prim.Native.Nat.{ℕ}
+use lib.ListN.{length}
 use Rattle.mode.specs.Scheme.{is_key}
-use Rattle.mode.specs.Sealing.{Triple, key_from, triple}
-use Rattle.answers.specs.declared.Done.{Done}
-use Rattle.answers.specs.declared.Done.TheVariants as D
-use Rattle.answers.specs.declared.Refusal.{Refusal}
-use Rattle.answers.specs.Answers.{done_option, refusal_number}
-use Rattle.answers.specs.Rules.{Rule, first_of, Args, args, shape, is_shape, sector_rules, length_rules}
+use Rattle.mode.specs.Sealing.{Key, Triple, triple}
+use Rattle.answers.specs.Rules.{Rule, first_of, settle, Args, args, shape, is_shape, sector_rules, length_rules}
+use Rattle.answers.proofs.Passing.{length_due}
 use Rattle.verdict.specs.Judging.{verdict_outcome}
 use Rattle.verdict.specs.Verdict.{judge}
-use Rattle.history.specs.Volume.{Call, blank, read, lengths, early, sector, mirror, outcome, read_outcome}
+use Rattle.history.specs.Volume.{Call, first, second, third, mend, read, lengths, early, sector, sealing, mirror, outcome, read_outcome}
 use Rattle.history.proofs.Outcomes.{outcome_early, outcome_late, read_early, read_late}
-use Rattle.answers.proofs.Passing.{length_due}
-use Rattle.history.proofs.Refusals.{passed}
+use Rattle.history.proofs.Refusals.{Passed, passed}
 use Rattle.images.specs.Lent.{Within}
-use Rattle.images.proofs.Rooms.{has_room, within_room, within_same, prefix_size}
-use Rattle.stages.specs.Inner.{all_places, seal_into, late_outcome}
+use Rattle.images.proofs.Rooms.{has_room, within_room, within_same}
+use Rattle.stages.specs.Inner.{seal_into, late_outcome}
 
-module _ (k : List ℕ) (volume s n i : ℕ) (l g r : List ℕ) where
-  abbrev a : Args
-  a = args (key_from k) volume s n i
+-- what the code's checks decide of a call
+abbrev checked : Triple → Args → Call → Option ℕ
+checked v a c =
+    let right : Bool = shape a.volume.size a.volume.count (length v.local) (length v.tag) (length v.remote) in
+    first_of (sector_rules a.volume.key a.volume.size a.volume.count right a.number ++ lengths a c)
 
-  abbrev v : Triple
-  v = triple l g r
+early_checked : (v : Triple) (a : Args) (c : Call) {o : Option ℕ} → checked v a c ≡ o → first_of (early v a c) ≡ o
+unfolding early is_shape
+early_checked v a c e = e
 
-  -- d is what the early checks of the call c answer
-  abbrev Checks : Call → Done → Type 0
-  Checks c d = first_of (sector_rules (key_from k) s n (shape s n (length l) (length g) (length r)) i ++ lengths a c) ≡ done_option d
+module _ (v : Triple) (a : Args) (c : Call) where
+  module _ (passes : checked v a c ≡ none) where
+    facts : Passed v a c
+    facts = passed v a c (early_checked v a c passes)
 
-  module _ (c : Call) {d : Done} (checks : Checks c d) where
-    answered : {x : Done} → d ≡ x → first_of (early v a c) ≡ done_option x
-    unfolding early is_shape
-    answered q = checks ∙ ap done_option q
+    call_within : (is_key a.volume.key ≡ true) × Within a.volume.size a.number (length v.local) (length v.tag) (length v.remote)
+    call_within =
+        let room = has_room v a.volume facts.common in
+        (facts.common.key, within_room a.volume.size a.volume.count a.number (length v.local) (length v.tag) (length v.remote) room facts.number)
 
-    pub call_within : d ≡ D.Done → (is_key (key_from k) ≡ true) × Within s i (length l) (length g) (length r)
-    call_within q =
-        let p = passed v a c (answered q) in
-        (p.common.key, within_room s n i (length l) (length g) (length r) (has_room v a.volume p.common) p.number)
+    -- with a plaintext or an output of p bytes
+    length_is : (p : ℕ) → lengths a c ≡ length_rules p a.volume.size → p ≡ a.volume.size
+    length_is p e = length_due p a.volume.size (subst (λ (m : List Rule). first_of m ≡ none) e facts.lengths)
 
-    pub call_done : d ≡ D.Done → {x : ℕ × Triple} → late_outcome (mirror (key_from k) volume) i s i v c ≡ x → outcome mirror v a c ≡ x
-    unfolding seal_into late_outcome
-    call_done q x = outcome_late mirror v a c (answered q) ∙ x
+  -- a refusal, or what comes after the checks
+  pub outcome_is : outcome mirror v a c ≡ settle (checked v a c) (late_outcome (sealing mirror a) a.number a.volume.size a.number v c) v
+  unfolding seal_into late_outcome
+  outcome_is = go (checked v a c) refl
+    where
+      by_checks : Option ℕ → ℕ × Triple
+      by_checks o = settle o (late_outcome (sealing mirror a) a.number a.volume.size a.number v c) v
 
-    pub call_refused : {f : Refusal} → d ≡ D.Refused f → outcome mirror v a c ≡ (refusal_number f, v)
-    call_refused q = outcome_early mirror v a c (answered q)
+      go : (o : Option ℕ) → checked v a c ≡ o → outcome mirror v a c ≡ by_checks (checked v a c)
+      go none e = outcome_late mirror v a c (early_checked v a c e) ∙ ap by_checks (sym e)
+      go (some n) e = outcome_early mirror v a c (early_checked v a c e) ∙ ap by_checks (sym e)
 
-  long : (p : ℕ) {d : Done} → Checks (read p) d → d ≡ D.Done → p ≡ s
-  long p checks q = length_due p s (passed v a (read p) (answered (read p) checks q)).lengths
+-- ---- a stage: the length of its plaintext is the size of a sector
 
-  -- a plaintext or an output of p bytes, which is s where the checks pass
-  module _ (p : ℕ) {d : Done} (checks : first_of (sector_rules (key_from k) s n (shape s n (length l) (length g) (length r)) i ++ length_rules p s) ≡ done_option d) (q : d ≡ D.Done) where
-    pub long_within : (is_key (key_from k) ≡ true) × Within p i (length l) (length g) (length r)
-    long_within =
-        let w = call_within (read p) checks q in
-        (w.0, within_same (long p checks q) w.1)
+module _ (v : Triple) (a : Args) (P : List ℕ) where
+  stage_is : (c : Call) → lengths a c ≡ length_rules (length P) a.volume.size → checked v a c ≡ none → {x : ℕ × Triple}
+      → late_outcome (sealing mirror a) a.number (length P) a.number v c ≡ x → outcome mirror v a c ≡ x
+  stage_is c e passes x =
+      outcome_is v a c
+      ∙ ap (λ (o : Option ℕ). settle o (late_outcome (sealing mirror a) a.number a.volume.size a.number v c) v) passes
+      ∙ ap (λ (n : ℕ). late_outcome (sealing mirror a) a.number n a.number v c) (sym (length_is v a c passes (length P) e))
+      ∙ x
 
-    pub stage_done : (c : Call) → lengths a c ≡ length_rules p s → {x : ℕ × Triple} → late_outcome (mirror (key_from k) volume) i p i v c ≡ x → outcome mirror v a c ≡ x
-    stage_done c e x =
-        let same = subst (λ (m : List Rule). first_of (sector_rules (key_from k) s n (shape s n (length l) (length g) (length r)) i ++ m) ≡ done_option d) (sym e) checks in
-        call_done c same q (ap (λ (m : ℕ). late_outcome (mirror (key_from k) volume) i m i v c) (sym (long p checks q)) ∙ x)
+  pub first_is : checked v a (first P) ≡ none → {x : ℕ × Triple} → late_outcome (sealing mirror a) a.number (length P) a.number v (first P) ≡ x → outcome mirror v a (first P) ≡ x
+  first_is passes x = stage_is (first P) refl passes x
 
-  -- ---- blank
+  pub second_is : checked v a (second P) ≡ none → {x : ℕ × Triple} → late_outcome (sealing mirror a) a.number (length P) a.number v (second P) ≡ x → outcome mirror v a (second P) ≡ x
+  second_is passes x = stage_is (second P) refl passes x
 
-  module _ {d : Done} (checks : Checks blank d) (q : d ≡ D.Done) where
-    abbrev zeros : List ℕ
-    zeros = take s (replicate 4096 0)
+  pub third_is : checked v a (third P) ≡ none → {x : ℕ × Triple} → late_outcome (sealing mirror a) a.number (length P) a.number v (third P) ≡ x → outcome mirror v a (third P) ≡ x
+  third_is passes x = stage_is (third P) refl passes x
 
-    pub blank_size : s ≤ 4096
-    blank_size = (call_within blank checks q).1.most
+-- ---- a read
 
-    pub blank_within : {m : ℕ} → m ≡ s → (is_key (key_from k) ≡ true) × Within m i (length l) (length g) (length r)
-    blank_within e = let w = call_within blank checks q in (w.0, within_same e w.1)
+module _ (v : Triple) (a : Args) (out : List ℕ) where
+  abbrev by_verdict : Option ℕ → ℕ × List ℕ
+  by_verdict o = settle o (verdict_outcome (judge (sealing mirror a) a.number (sector v a)) out) out
 
-    pub blank_done : {x : Triple} → x ≡ seal_into (mirror (key_from k) volume) i (length zeros) i zeros all_places v → outcome mirror v a blank ≡ (0, x)
-    unfolding late_outcome
-    blank_done {x} e =
-        let z : take {A = ℕ} s (replicate 4096 0) ≡ replicate s 0 = take_zeros s 4096 blank_size in
-        let y : Triple = seal_into (mirror (key_from k) volume) i s i (replicate s 0) all_places v in
-        let same : x ≡ y = e ∙ (λ j. seal_into (mirror (key_from k) volume) i (prefix_size s 0 blank_size j) i (z j) all_places v) in
-        call_done blank checks q (ap (λ (u : Triple). (0, u)) (sym same))
+  pub read_is : read_outcome mirror v a out ≡ settle (checked v a (read (length out))) (verdict_outcome (judge (sealing mirror a) a.number (sector v a)) out) out
+  read_is = go (checked v a (read (length out))) refl
+    where
+      go : (o : Option ℕ) → checked v a (read (length out)) ≡ o → read_outcome mirror v a out ≡ by_verdict (checked v a (read (length out)))
+      go none e = read_late mirror v a out (early_checked v a (read (length out)) e) ∙ ap by_verdict (sym e)
+      go (some n) e = read_early mirror v a out (early_checked v a (read (length out)) e) ∙ ap by_verdict (sym e)
 
-  -- ---- read
+-- ---- what the functions behind the checks require
 
-  module _ (out : List ℕ) {d : Done} (checks : Checks (read (length out)) d) where
-    pub read_within : d ≡ D.Done → (is_key (key_from k) ≡ true) × Within s i (length l) (length g) (length r) × (length out ≡ s)
-    read_within q = let w = call_within (read (length out)) checks q in (w.0, w.1, long (length out) checks q)
+module _ (k : Key) (s n i : ℕ) (l g r : List ℕ) where
+  abbrev v' : Triple
+  v' = triple l g r
 
-    pub read_done : d ≡ D.Done → {x : ℕ × List ℕ} → verdict_outcome (judge (mirror (key_from k) volume) i (sector v a)) out ≡ x → read_outcome mirror v a out ≡ x
-    read_done q x = read_late mirror v a out (answered (read (length out)) checks q) ∙ x
+  pub sector_within : first_of (sector_rules k s n (shape s n (length l) (length g) (length r)) i) ≡ none → (is_key k ≡ true) × Within s i (length l) (length g) (length r)
+  sector_within passes = call_within v' (args k 0 s n i) mend passes
 
-    pub read_refused : {f : Refusal} → d ≡ D.Refused f → read_outcome mirror v a out ≡ (refusal_number f, out)
-    read_refused q = read_early mirror v a out (answered (read (length out)) checks q)
+  pub stage_within : (p : ℕ) → first_of (sector_rules k s n (shape s n (length l) (length g) (length r)) i ++ length_rules p s) ≡ none
+      → (is_key k ≡ true) × Within p i (length l) (length g) (length r)
+  stage_within p passes =
+      let c : Call = read p in
+      let w = call_within v' (args k 0 s n i) c passes in
+      (w.0, within_same (length_is v' (args k 0 s n i) c passes p refl) w.1)
+
+  -- x, y and z are the lengths of the images
+  pub read_within : (out : List ℕ) (x y z : ℕ) → first_of (sector_rules k s n (shape s n x y z) i ++ length_rules (length out) s) ≡ none
+      → x ≡ length l → y ≡ length g → z ≡ length r → (is_key k ≡ true) × Within s i (length l) (length g) (length r) × (length out ≡ s)
+  read_within out x y z e ex ey ez =
+      let c : Call = read (length out) in
+      let passes = subst (λ (b : Bool). first_of (sector_rules k s n b i ++ length_rules (length out) s) ≡ none) (λ j. shape s n (ex j) (ey j) (ez j)) e in
+      let w = call_within v' (args k 0 s n i) c passes in
+      (w.0, w.1, length_is v' (args k 0 s n i) c passes (length out) refl)

@@ -1,364 +1,330 @@
 // Calls on one sector of a volume (document 01): blank, three write stages, read and mend. Each call takes any input and checks it for
 // itself.
+//
+// The calls stay apart, each with its own lines that prepare the key: they differ in the images that are written, for which no one type
+// serves, and a closure around those lines would capture these images. So `Within` stays a clause where images are written. That the key is
+// one stays a clause too, as `mode::prepare` has it: a type for a checked key would stand beside `Volume`, which no check has passed.
 #![tactic(auto)]
 
 ghost use Rattle.std.specs.Prelude.{◌≡◌, true, length};
 ghost use Rattle.mode.specs.Scheme.{is_key};
 ghost use Rattle.mode.specs.Sealing.{key_from, triple};
+ghost use Rattle.mode.specs.Sealing as M;
+ghost use Rattle.block.specs.Value.{value};
 ghost use Rattle.answers.specs.Answers.{done_number, judged_number};
-ghost use Rattle.answers.specs.Rules.{args};
+ghost use Rattle.answers.specs.Lent.{triple_of, args_of};
 ghost use Rattle.verdict.specs.Judging.{verdict_outcome};
 ghost use Rattle.verdict.specs.Verdict.{judge};
-ghost use Rattle.history.specs.Volume.{mirror, outcome, read_outcome};
+ghost use Rattle.history.specs.Volume.{mirror, sealing, sector_of, outcome, read_outcome};
 ghost use Rattle.history.specs.Volume as W;
-ghost use Rattle.images.specs.Lent.{Within, places_of};
-ghost use Rattle.stages.specs.Inner.{all_places, seal_into, late_outcome};
+ghost use Rattle.images.specs.Lent.{Within};
+ghost use Rattle.stages.specs.Inner.{late_outcome};
 
-use answers::{Done, Judged};
+use answers::{Found, Lengths, Places, Refusal, Volume};
+use block::Block;
+use images::Sector;
 
-fn read_checked(
-    key: &[u8],
-    volume: u64,
-    s: usize,
-    i: usize,
-    local: &[u8],
-    tags: &[u8],
-    remote: &[u8],
-    out: &mut [u8],
-) -> Judged
-    requires { (is_key (key_from key.now) ≡ true) × Within s i (length local.now) (length tags.now) (length remote.now) × (length out.old ≡ s) }
-    ensures { verdict_outcome (judge (mirror (key_from key.now) volume) i (places_of s i local.now tags.now remote.now)) out.old ≡ (judged_number result, out.new) }
+// The tweak of sector i: its number is its address. std has no conversion of a usize to a u64 that cannot fail.
+fn tweak(volume: &Volume, i: usize) -> Block
+    ensures { value result ≡ M.tweak volume.now.number i }
 {
-    let t = aes::table();
-    let k = mode::prepare(&t, key);
-    let ctx = mode::context_at(k.masks, volume, i as u64);
+    mode::tweak_at(volume.number, i as u64)
+}
+
+fn read_checked(volume: &Volume, i: usize, images: Places, out: &mut [u8]) -> Result<Found, Refusal>
+    requires { (is_key (key_from volume.now.key.now) ≡ true)
+        × Within volume.now.size i (length images.local.now) (length images.tag.now) (length images.remote.now)
+        × (length out.old ≡ volume.now.size) }
+    ensures { verdict_outcome (judge (sealing mirror (args_of volume.now i)) i (sector_of volume.now.size i (triple_of images.entry))) out.old
+        ≡ (judged_number result, out.new) }
+{
+    let table = aes::table();
+    let prepared = mode::prepare(&table, volume.key);
+    let keyed = prepared.lend(&table);
+    let size = volume.size;
+    let sector = Sector {
+        images,
+        size,
+        number: i,
+    };
     let mut sum = [0u8; 4096];
     let mut scratch = [0u8; 4096];
     images::judge_part(
-        &t,
-        &k.words,
-        &k.powers,
-        ctx,
-        s,
-        i,
-        local,
-        tags,
-        remote,
+        &keyed,
+        tweak(volume, i),
+        &sector,
         out,
-        &mut sum[..s],
-        &mut scratch[..s],
+        &mut sum[..size],
+        &mut scratch[..size],
     )
 }
 
+#[tactic(auto, using(crate::proofs::Keyed::late_keyed))]
 fn first_checked(
-    key: &[u8],
-    volume: u64,
+    volume: &Volume,
     p: &[u8],
     i: usize,
     local: &mut [u8],
     tags: &[u8],
     remote: &[u8],
-) -> Done
-    requires { (is_key (key_from key.now) ≡ true) × Within (length p.now) i (length local.old) (length tags.now) (length remote.now) }
-    ensures { late_outcome (mirror (key_from key.now) volume) i (length p.now) i (triple local.old tags.now remote.now) (W.first p.now) ≡ (done_number result, triple local.new tags.now remote.now) }
+) -> Result<(), Refusal>
+    requires { (is_key (key_from volume.now.key.now) ≡ true)
+        × Within (length p.now) i (length local.old) (length tags.now) (length remote.now) }
+    ensures { late_outcome (sealing mirror (args_of volume.now i)) i (length p.now) i (triple local.old tags.now remote.now) (W.first p.now)
+        ≡ (done_number result, triple local.new tags.now remote.now) }
 {
-    let t = aes::table();
-    let k = mode::prepare(&t, key);
-    let ctx = mode::context_at(k.masks, volume, i as u64);
-    let s = p.len();
+    let table = aes::table();
+    let prepared = mode::prepare(&table, volume.key);
+    let keyed = prepared.lend(&table);
+    let size = p.len();
     let mut plain = [0u8; 4096];
     let mut sum = [0u8; 4096];
     let mut scratch = [0u8; 4096];
     stages::first_in(
-        &t,
-        &k.words,
-        &k.powers,
-        ctx,
+        &keyed,
+        tweak(volume, i),
         p,
         i,
         local,
         tags,
         remote,
-        &mut plain[..s],
-        &mut sum[..s],
-        &mut scratch[..s],
+        &mut plain[..size],
+        &mut sum[..size],
+        &mut scratch[..size],
     )
 }
 
+#[tactic(auto, using(crate::proofs::Keyed::late_keyed))]
 fn second_checked(
-    key: &[u8],
-    volume: u64,
+    volume: &Volume,
     p: &[u8],
     i: usize,
     local: &[u8],
     tags: &mut [u8],
     remote: &[u8],
-) -> Done
-    requires { (is_key (key_from key.now) ≡ true) × Within (length p.now) i (length local.now) (length tags.old) (length remote.now) }
-    ensures { late_outcome (mirror (key_from key.now) volume) i (length p.now) i (triple local.now tags.old remote.now) (W.second p.now) ≡ (done_number result, triple local.now tags.new remote.now) }
+) -> Result<(), Refusal>
+    requires { (is_key (key_from volume.now.key.now) ≡ true)
+        × Within (length p.now) i (length local.now) (length tags.old) (length remote.now) }
+    ensures { late_outcome (sealing mirror (args_of volume.now i)) i (length p.now) i (triple local.now tags.old remote.now) (W.second p.now)
+        ≡ (done_number result, triple local.now tags.new remote.now) }
 {
-    let t = aes::table();
-    let k = mode::prepare(&t, key);
-    let ctx = mode::context_at(k.masks, volume, i as u64);
-    let s = p.len();
+    let table = aes::table();
+    let prepared = mode::prepare(&table, volume.key);
+    let keyed = prepared.lend(&table);
+    let size = p.len();
     let mut scratch = [0u8; 4096];
     stages::second_in(
-        &t,
-        &k.words,
-        &k.powers,
-        ctx,
+        &keyed,
+        tweak(volume, i),
         p,
         i,
         local,
         tags,
         remote,
-        &mut scratch[..s],
+        &mut scratch[..size],
     )
 }
 
+#[tactic(auto, using(crate::proofs::Keyed::late_keyed))]
 fn third_checked(
-    key: &[u8],
-    volume: u64,
+    volume: &Volume,
     p: &[u8],
     i: usize,
     local: &[u8],
     tags: &[u8],
     remote: &mut [u8],
-) -> Done
-    requires { (is_key (key_from key.now) ≡ true) × Within (length p.now) i (length local.now) (length tags.now) (length remote.old) }
-    ensures { late_outcome (mirror (key_from key.now) volume) i (length p.now) i (triple local.now tags.now remote.old) (W.third p.now) ≡ (done_number result, triple local.now tags.now remote.new) }
+) -> Result<(), Refusal>
+    requires { (is_key (key_from volume.now.key.now) ≡ true)
+        × Within (length p.now) i (length local.now) (length tags.now) (length remote.old) }
+    ensures { late_outcome (sealing mirror (args_of volume.now i)) i (length p.now) i (triple local.now tags.now remote.old) (W.third p.now)
+        ≡ (done_number result, triple local.now tags.now remote.new) }
 {
-    let t = aes::table();
-    let k = mode::prepare(&t, key);
-    let ctx = mode::context_at(k.masks, volume, i as u64);
-    let s = p.len();
+    let table = aes::table();
+    let prepared = mode::prepare(&table, volume.key);
+    let keyed = prepared.lend(&table);
+    let size = p.len();
     let mut scratch = [0u8; 4096];
     stages::third_in(
-        &t,
-        &k.words,
-        &k.powers,
-        ctx,
+        &keyed,
+        tweak(volume, i),
         p,
         i,
         local,
         tags,
         remote,
-        &mut scratch[..s],
+        &mut scratch[..size],
     )
 }
 
-fn blank_checked(
-    key: &[u8],
-    volume: u64,
-    p: &[u8],
-    i: usize,
-    local: &mut [u8],
-    tags: &mut [u8],
-    remote: &mut [u8],
-)
-    requires { (is_key (key_from key.now) ≡ true) × Within (length p.now) i (length local.old) (length tags.old) (length remote.old) }
-    ensures { triple local.new tags.new remote.new ≡ seal_into (mirror (key_from key.now) volume) i (length p.now) i p.now all_places (triple local.old tags.old remote.old) }
+fn blank_checked(volume: &Volume, i: usize, local: &mut [u8], tags: &mut [u8], remote: &mut [u8])
+    requires { (is_key (key_from volume.now.key.now) ≡ true)
+        × Within volume.now.size i (length local.old) (length tags.old) (length remote.old) }
+    ensures { late_outcome (sealing mirror (args_of volume.now i)) i volume.now.size i (triple local.old tags.old remote.old) W.blank
+        ≡ (0, triple local.new tags.new remote.new) }
 {
-    let t = aes::table();
-    let k = mode::prepare(&t, key);
-    let ctx = mode::context_at(k.masks, volume, i as u64);
-    stages::write_all(&t, &k.words, &k.powers, ctx, p, i, local, tags, remote);
+    let table = aes::table();
+    let prepared = mode::prepare(&table, volume.key);
+    let keyed = prepared.lend(&table);
+    let size = volume.size;
+    let zeros = [0u8; 4096];
+    stages::write_all(
+        &keyed,
+        tweak(volume, i),
+        &zeros[..size],
+        i,
+        local,
+        tags,
+        remote,
+    );
 }
 
 fn mend_checked(
-    key: &[u8],
-    volume: u64,
-    s: usize,
+    volume: &Volume,
     i: usize,
     local: &mut [u8],
     tags: &mut [u8],
     remote: &mut [u8],
-) -> Judged
-    requires { (is_key (key_from key.now) ≡ true) × Within s i (length local.old) (length tags.old) (length remote.old) }
-    ensures { late_outcome (mirror (key_from key.now) volume) i s i (triple local.old tags.old remote.old) W.mend ≡ (judged_number result, triple local.new tags.new remote.new) }
+) -> Result<Found, Refusal>
+    requires { (is_key (key_from volume.now.key.now) ≡ true)
+        × Within volume.now.size i (length local.old) (length tags.old) (length remote.old) }
+    ensures { late_outcome (sealing mirror (args_of volume.now i)) i volume.now.size i (triple local.old tags.old remote.old) W.mend
+        ≡ (judged_number result, triple local.new tags.new remote.new) }
 {
-    let t = aes::table();
-    let k = mode::prepare(&t, key);
-    let ctx = mode::context_at(k.masks, volume, i as u64);
+    let table = aes::table();
+    let prepared = mode::prepare(&table, volume.key);
+    let keyed = prepared.lend(&table);
+    let size = volume.size;
     let mut plain = [0u8; 4096];
     let mut sum = [0u8; 4096];
     let mut scratch = [0u8; 4096];
     stages::mend_in(
-        &t,
-        &k.words,
-        &k.powers,
-        ctx,
-        s,
+        &keyed,
+        tweak(volume, i),
+        size,
         i,
         local,
         tags,
         remote,
-        &mut plain[..s],
-        &mut sum[..s],
-        &mut scratch[..s],
+        &mut plain[..size],
+        &mut sum[..size],
+        &mut scratch[..size],
     )
 }
 
 // Writes p's local sector to sector i, if the sector is whole.
+#[tactic(auto, using(crate::proofs::Public::stage_within, crate::proofs::Public::first_is, crate::proofs::Public::outcome_is))]
 pub fn first_stage(
-    key: &[u8],
-    volume: u64,
-    s: usize,
-    n: usize,
+    volume: &Volume,
     i: usize,
     p: &[u8],
     local: &mut [u8],
     tags: &[u8],
     remote: &[u8],
-) -> Done
-    ensures { outcome mirror (triple local.old tags.now remote.now) (args (key_from key.now) volume s n i) (W.first p.now) ≡ (done_number result, triple local.new tags.now remote.now) }
+) -> Result<(), Refusal>
+    ensures { outcome mirror (triple local.old tags.now remote.now) (args_of volume.now i) (W.first p.now)
+        ≡ (done_number result, triple local.new tags.now remote.now) }
 {
-    let checked = answers::check_sector_and_length(
-        key,
-        s,
-        n,
-        i,
-        local.len(),
-        tags.len(),
-        remote.len(),
-        p.len(),
-    );
-    match checked {
-        Done::Done => first_checked(key, volume, p, i, local, tags, remote),
-        Done::Refused(f) => Done::Refused(f),
-    }
+    let lengths = Lengths {
+        local: local.len(),
+        tags: tags.len(),
+        remote: remote.len(),
+    };
+    volume.check_sector_and_length(i, lengths, p.len())?;
+    first_checked(volume, p, i, local, tags, remote)
 }
 
 // Writes p's tag to sector i, if p fits the local place.
+#[tactic(auto, using(crate::proofs::Public::stage_within, crate::proofs::Public::second_is, crate::proofs::Public::outcome_is))]
 pub fn second_stage(
-    key: &[u8],
-    volume: u64,
-    s: usize,
-    n: usize,
+    volume: &Volume,
     i: usize,
     p: &[u8],
     local: &[u8],
     tags: &mut [u8],
     remote: &[u8],
-) -> Done
-    ensures { outcome mirror (triple local.now tags.old remote.now) (args (key_from key.now) volume s n i) (W.second p.now) ≡ (done_number result, triple local.now tags.new remote.now) }
+) -> Result<(), Refusal>
+    ensures { outcome mirror (triple local.now tags.old remote.now) (args_of volume.now i) (W.second p.now)
+        ≡ (done_number result, triple local.now tags.new remote.now) }
 {
-    let checked = answers::check_sector_and_length(
-        key,
-        s,
-        n,
-        i,
-        local.len(),
-        tags.len(),
-        remote.len(),
-        p.len(),
-    );
-    match checked {
-        Done::Done => second_checked(key, volume, p, i, local, tags, remote),
-        Done::Refused(f) => Done::Refused(f),
-    }
+    let lengths = Lengths {
+        local: local.len(),
+        tags: tags.len(),
+        remote: remote.len(),
+    };
+    volume.check_sector_and_length(i, lengths, p.len())?;
+    second_checked(volume, p, i, local, tags, remote)
 }
 
 // Writes p's remote sector to sector i, if p fits the local place and the tag.
+#[tactic(auto, using(crate::proofs::Public::stage_within, crate::proofs::Public::third_is, crate::proofs::Public::outcome_is))]
 pub fn third_stage(
-    key: &[u8],
-    volume: u64,
-    s: usize,
-    n: usize,
+    volume: &Volume,
     i: usize,
     p: &[u8],
     local: &[u8],
     tags: &[u8],
     remote: &mut [u8],
-) -> Done
-    ensures { outcome mirror (triple local.now tags.now remote.old) (args (key_from key.now) volume s n i) (W.third p.now) ≡ (done_number result, triple local.now tags.now remote.new) }
+) -> Result<(), Refusal>
+    ensures { outcome mirror (triple local.now tags.now remote.old) (args_of volume.now i) (W.third p.now)
+        ≡ (done_number result, triple local.now tags.now remote.new) }
 {
-    let checked = answers::check_sector_and_length(
-        key,
-        s,
-        n,
-        i,
-        local.len(),
-        tags.len(),
-        remote.len(),
-        p.len(),
-    );
-    match checked {
-        Done::Done => third_checked(key, volume, p, i, local, tags, remote),
-        Done::Refused(f) => Done::Refused(f),
-    }
+    let lengths = Lengths {
+        local: local.len(),
+        tags: tags.len(),
+        remote: remote.len(),
+    };
+    volume.check_sector_and_length(i, lengths, p.len())?;
+    third_checked(volume, p, i, local, tags, remote)
 }
 
 // Gives sector i's plaintext with whole or the doubtful place.
-pub fn read(
-    key: &[u8],
-    volume: u64,
-    s: usize,
-    n: usize,
-    i: usize,
-    local: &[u8],
-    tags: &[u8],
-    remote: &[u8],
-    out: &mut [u8],
-) -> Judged
-    ensures { read_outcome mirror (triple local.now tags.now remote.now) (args (key_from key.now) volume s n i) out.old ≡ (judged_number result, out.new) }
+#[tactic(auto, using(crate::proofs::Public::read_is))]
+pub fn read(volume: &Volume, i: usize, images: Places, out: &mut [u8]) -> Result<Found, Refusal>
+    ensures { read_outcome mirror (triple_of images.entry) (args_of volume.now i) out.old ≡ (judged_number result, out.new) }
 {
-    let checked = answers::check_sector_and_length(
-        key,
-        s,
-        n,
-        i,
-        local.len(),
-        tags.len(),
-        remote.len(),
-        out.len(),
-    );
-    match checked {
-        Done::Done => read_checked(key, volume, s, i, local, tags, remote, out),
-        Done::Refused(f) => Judged::Refused(f),
-    }
+    volume.check_sector_and_length(i, images.lengths(), out.len())?;
+    read_checked(volume, i, images, out)
 }
 
 // Writes sector i's doubtful place as the one plaintext seals, and gives the verdict found.
+#[tactic(auto, using(crate::proofs::Public::sector_within, crate::proofs::Public::outcome_is))]
 pub fn mend(
-    key: &[u8],
-    volume: u64,
-    s: usize,
-    n: usize,
+    volume: &Volume,
     i: usize,
     local: &mut [u8],
     tags: &mut [u8],
     remote: &mut [u8],
-) -> Judged
-    ensures { outcome mirror (triple local.old tags.old remote.old) (args (key_from key.now) volume s n i) W.mend ≡ (judged_number result, triple local.new tags.new remote.new) }
+) -> Result<Found, Refusal>
+    ensures { outcome mirror (triple local.old tags.old remote.old) (args_of volume.now i) W.mend
+        ≡ (judged_number result, triple local.new tags.new remote.new) }
 {
-    let checked = answers::check_sector(key, s, n, i, local.len(), tags.len(), remote.len());
-    match checked {
-        Done::Done => mend_checked(key, volume, s, i, local, tags, remote),
-        Done::Refused(f) => Judged::Refused(f),
-    }
+    let lengths = Lengths {
+        local: local.len(),
+        tags: tags.len(),
+        remote: remote.len(),
+    };
+    volume.check_sector(i, lengths)?;
+    mend_checked(volume, i, local, tags, remote)
 }
 
 // Seals zeros into the three places of sector i.
+#[tactic(auto, using(crate::proofs::Public::sector_within, crate::proofs::Public::outcome_is))]
 pub fn blank(
-    key: &[u8],
-    volume: u64,
-    s: usize,
-    n: usize,
+    volume: &Volume,
     i: usize,
     local: &mut [u8],
     tags: &mut [u8],
     remote: &mut [u8],
-) -> Done
-    ensures { outcome mirror (triple local.old tags.old remote.old) (args (key_from key.now) volume s n i) W.blank ≡ (done_number result, triple local.new tags.new remote.new) }
+) -> Result<(), Refusal>
+    ensures { outcome mirror (triple local.old tags.old remote.old) (args_of volume.now i) W.blank
+        ≡ (done_number result, triple local.new tags.new remote.new) }
 {
-    let checked = answers::check_sector(key, s, n, i, local.len(), tags.len(), remote.len());
-    match checked {
-        Done::Done => {
-            let zeros = [0u8; 4096];
-            blank_checked(key, volume, &zeros[..s], i, local, tags, remote);
-            Done::Done
-        }
-        Done::Refused(f) => Done::Refused(f),
-    }
+    let lengths = Lengths {
+        local: local.len(),
+        tags: tags.len(),
+        remote: remote.len(),
+    };
+    volume.check_sector(i, lengths)?;
+    blank_checked(volume, i, local, tags, remote);
+    Ok(())
 }

@@ -1,13 +1,14 @@
-use mathlib.Core.Path.{ap, ◌∙◌}
-use Prim.Native.Nat.{ℕ}
+use Rattle.std.proofs.Common.{rules, ℕ, ap, ◌∙◌}
 use Rattle.block.specs.Value.{value}
+use Rattle.hash.specs.Powers.{key_of}
 use Rattle.bench.specs.Chain.{iterate, folded, hashed}
 use Rattle.bench.proofs.bench_brw.Goals as goal
 
 pub returns : goal.returns
 unfolding value
 returns c least most =
-    let args = c.args in
+    let a = c.args in
     c.fold.ensures
     ∙ ap folded
-    (c.hash_chain.ensures ∙ ap (λ (h : ℕ). iterate args.n (hashed h args.x.now) 0) c.powers-p.ensures.0)
+    (c.iterate.ensures (hashed (key_of c.powers-p.result.words) a.x.now) (λ x y p. search rules)
+    ∙ ap (λ (h : ℕ). iterate a.n (hashed h a.x.now) 0) c.powers-p.ensures)

@@ -1,5 +1,7 @@
-use Rattle.bits.proofs.Bits.{bit-read}
+use Rattle.std.proofs.Common.{ℕ, eqb, ap}
+use Rattle.bits.specs.Bits.{bit}
 use Rattle.bits.proofs.test_bit.Goals as goal
 
 pub returns : goal.returns
-returns c = bit-read _ _ c.digit_of.ensures
+unfolding bit
+returns c = ap (λ (d : ℕ). eqb d 1) c.digit_of.ensures

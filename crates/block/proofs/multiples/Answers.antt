@@ -16,8 +16,8 @@ loop-i-preserved c =
       omega arith,
       omega arith,
       simp length-set c.loop-i.invariant.2,
-      two_more t i (value c.args.b) c.double-even.result c.xor-odd.result (omega arith) (omega arith)
-          (digits_lt {m = 2 ^ 64} {c = 2 ^ 64} (omega arith) (omega arith)) c.loop-i.invariant.2 c.loop-i.invariant.3 c.double-even.ensures c.xor-odd.ensures,
+      two_more t i (value c.args.b) c.double-even.result c.bitxor-odd.result (omega arith) (omega arith)
+          (digits_lt {m = 2 ^ 64} {c = 2 ^ 64} (omega arith) (omega arith)) c.loop-i.invariant.2 c.loop-i.invariant.3 c.double-even.ensures c.bitxor-odd.ensures,
     )
 
 pub returns : goal.returns

@@ -1,9 +1,6 @@
-use Rattle.std.proofs.Common.{◌≡◌, ◌-◌, ◌≤◌, ◌++◌, length, take, drop}
-use Rattle.block.specs.Bytes.{xor_bytes}
+use Rattle.std.proofs.Common.{◌≡◌, ℕ, ◌<◌, length, get_or}
+use lib.Bits.{bit_xor}
 use Rattle.block.proofs.xor_bytes.Given as goal
 
 abbrev pub invariant-loop-i : goal.invariant-loop-i
-invariant-loop-i l = (l.i ≤ length l.a) × (length l.out ≡ length l.initial.out) × (l.out ≡ take l.i (xor_bytes l.a l.b) ++ drop l.i l.initial.out)
-
-abbrev pub decreases-loop-i : goal.decreases-loop-i
-decreases-loop-i l = length l.a - l.i
+invariant-loop-i l = (length l.out ≡ length l.a) × ((k : ℕ) → k < l.i → get_or l.out k 0 ≡ bit_xor (get_or l.a k 0) (get_or l.b k 0))

@@ -1,22 +1,18 @@
-use mathlib.Core.Path.{◌≡◌}
-use Prim.Native.Nat.{◌+◌, ◌*◌, ◌^◌}
-use native.Mathlib.Nat.{pow-suc}
-use native.Mathlib.Numerals.{add-one}
-use native.Mathlib.Omega.{arith}
-use borrow.Author.Rules.{rules}
+use Rattle.std.proofs.Common.{◌≡◌, ℕ, ◌*◌, ◌^◌, ◌%◌, ap, sym, ◌∙◌, pow-suc, arith}
+use Rattle.block.specs.Field.{power}
 use Rattle.hash.specs.Brw.{log}
+use Rattle.hash.specs.Powers.{key_of}
 use Rattle.hash.proofs.BrwLaws.{exponent_le, log_is}
 use Rattle.hash.proofs.largest_power.Goals as goal
 
-pub loop-t-preserved : goal.loop-t-preserved
-loop-t-preserved c =
-    let l = c.loop-t in
-    let e : l.t * 2 ≡ 2 ^ (l.i + 1) = rw (add-one, pow-suc) (omega arith) in
-    (e, omega arith, omega arith, exponent_le (l.i + 1) 8 c.args.k (omega arith) (omega arith))
+pub at-requires : goal.at-requires
+at-requires c = let le = exponent_le c.ilog2-i.result 8 c.args.k (omega arith) (omega arith) in omega arith
 
-pub returns : goal.returns
-returns c =
-    let l = c.loop-t in
-    let k = c.args.k in
-    let same : log k ≡ l.i = log_is l.i k (omega arith) (omega (arith, pow-suc 2 l.i)) in
-    record { exponent_value = (rw same l.invariant.0, rw same c.power_at.ensures); exponent_le_k = search rules }
+pub returns-clause-exponent_value : goal.returns-clause-exponent_value
+returns-clause-exponent_value c =
+    let i = c.ilog2-i.result in
+    let le = c.ilog2-i.ensures.power_le in
+    let gt = c.ilog2-i.ensures.next_power_gt in
+    let same : log c.args.k ≡ i = log_is i c.args.k le (omega (arith, pow-suc 2 i)) in
+    let fits : 1 * 2 ^ i % 18446744073709551616 ≡ 2 ^ i = omega arith in
+    (fits ∙ ap (λ (n : ℕ). 2 ^ n) (sym same), c.at.ensures ∙ ap (power (key_of c.args.p.now.words)) (sym same))

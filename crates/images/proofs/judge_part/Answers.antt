@@ -1,13 +1,12 @@
 use native.Mathlib.Omega.{arith}
-use lib.ListN.{length-take, length-drop}
-use Rattle.images.proofs.Parts.{lent_parts, lent_judged}
+use Rattle.images.proofs.Parts.{local_long, part_sizes}
 use Rattle.images.proofs.judge_part.Goals as goal
+
+pub invariant_of-part : goal.invariant_of-part
+invariant_of-part c = record { sizes = part_sizes _ _ _ _ _ c.args.sector.now.within _ c.places.ensures }
 
 pub judge_in-requires : goal.judge_in-requires
 judge_in-requires c =
-    let a = c.args in
     let given = c.requires in
-    lent_parts a.s a.i a.local.now a.remote.now given.0 given.1 (simp (length-take, length-drop) (omega arith)) (search) (search) (search)
-
-pub returns : goal.returns
-returns c = search lent_judged
+    let long = local_long _ _ _ _ _ c.args.sector.now.within _ c.places.ensures in
+    (omega arith, omega arith, omega arith)

@@ -1,8 +1,7 @@
-use mathlib.Core.Path.{sym, ◌∙◌}
+use mathlib.Core.Path.{◌∙◌}
 use Prim.Native.Nat.{◌≤◌}
 use native.Mathlib.Omega.{arith}
 use lib.ListN.{length, length-take, length-drop}
-use borrow.Author.Rules.{rules}
 use Rattle.input.proofs.Stretches.{so_far_none, so_far_next, fed_all_lem}
 use Rattle.input.proofs.feed_buffer.Goals as goal
 
@@ -16,27 +15,6 @@ loop-end-init c =
     so_far_none a.buffer.now a.line.now a.used a.out.now c.line_end-end.result
     h.0 h.1 c.line_end-end.ensures
 
-pub slice_bounds-hold-count : goal.slice_bounds-hold-count
-slice_bounds-hold-count c = let e = c.loop-end.invariant.ends in omega arith
-
-pub slice_bounds-hold-start : goal.slice_bounds-hold-start
-slice_bounds-hold-start c = let e = c.loop-end.invariant.ends in search rules
-
-pub slice_bounds-hold-end : goal.slice_bounds-hold-end
-slice_bounds-hold-end c = let e = c.loop-end.invariant.within in search rules
-
-pub hold-n-requires : goal.hold-n-requires
-hold-n-requires c = (c.loop-end.invariant.line_long, c.loop-end.invariant.most)
-
-pub print_held-printed-requires : goal.print_held-printed-requires
-print_held-printed-requires c =
-    let l = c.loop-end in
-    let few = simp (length-take, length-drop) at c.hold-n.ensures.2 in
-    let same = c.hold-n.auto.line in
-    let v = l.invariant in
-    let p = c.requires in
-    (omega arith, omega arith)
-
 pub loop-end-preserved : goal.loop-end-preserved
 loop-end-preserved c =
     let l = c.loop-end in
@@ -48,27 +26,6 @@ loop-end-preserved c =
     so_far_next v o.result _ o.ensures.0 (omega arith)
     p.result _ c.line_end-end-in-loop-end.result (o.auto.line ∙ v.line_long) (omega arith) p.auto.out
     p.ensures.0 p.ensures.1 p.ensures.2 (omega arith) c.line_end-end-in-loop-end.ensures
-
-pub slice_bounds-hold-count-2 : goal.slice_bounds-hold-count-2
-slice_bounds-hold-count-2 c = let e = c.loop-end.invariant.ends in omega arith
-
-pub slice_bounds-hold-start-2 : goal.slice_bounds-hold-start-2
-slice_bounds-hold-start-2 c = let e = c.loop-end.invariant.ends in search rules
-
-pub slice_bounds-hold-end-2 : goal.slice_bounds-hold-end-2
-slice_bounds-hold-end-2 c = let e = c.loop-end.invariant.within in search rules
-
-pub hold-last-requires : goal.hold-last-requires
-hold-last-requires c = (c.loop-end.invariant.line_long, c.loop-end.invariant.most)
-
-pub shape_of-line : goal.shape_of-line
-shape_of-line c =
-    let v = c.loop-end.invariant.line_long in
-    let h = c.requires in
-    c.hold-last.auto.line ∙ v ∙ sym h.0
-
-pub shape_of-out : goal.shape_of-out
-shape_of-out c = c.loop-end.invariant.out_long
 
 pub returns : goal.returns
 returns c =

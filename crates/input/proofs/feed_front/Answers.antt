@@ -1,16 +1,8 @@
 use mathlib.Core.Path.{◌∙◌}
-use native.Mathlib.Omega.{arith}
-use lib.ListN.{length-take}
 use Rattle.input.proofs.Turns.{stored_is}
 use Rattle.input.proofs.feed_front.Goals as goal
 
 -- `feed_front` meets its contract. Assumes nothing.
-
-pub slice_bounds-feed_buffer-end : goal.slice_bounds-feed_buffer-end
-slice_bounds-feed_buffer-end c = simp length-take (omega arith)
-
-pub feed_buffer-fed-requires : goal.feed_buffer-fed-requires
-feed_buffer-fed-requires c = simp length-take (omega arith)
 
 pub returns : goal.returns
 returns c =

@@ -22,7 +22,7 @@ pub returns : goal.returns
 returns c =
     let a = c.args in
     let r = c.print_held in
-    let size = c.least-size in
+    let size = c.min-size in
     let some : 0 < length (take a.used a.line.now) = simp length-take (omega arith) in
     let same = take_least a.line.now a.used 16499 size.result (omega arith) size.ensures in
     reprint a.out.now _ r.result 16502 (finished_some (take a.used a.line.now) some ∙ ap print_line (sym same)) (omega arith)

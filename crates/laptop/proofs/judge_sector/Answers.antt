@@ -3,8 +3,5 @@ use lib.ListN.{length-take}
 use Rattle.laptop.proofs.Steps.{judged}
 use Rattle.laptop.proofs.judge_sector.Goals as goal
 
-pub slice_bounds-read-end : goal.slice_bounds-read-end
-slice_bounds-read-end c = simp length-take (omega arith)
-
 pub returns : goal.returns
 returns c = judged _ _ _ _ _ (simp length-take (omega arith)) c.read.ensures

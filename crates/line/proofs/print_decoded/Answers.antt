@@ -22,8 +22,8 @@ returns-then-decode c =
     ∙ ap (λ (f : List ℕ). shown (frame_answer f)) (sym (d.ensures.1 ∙ ap (λ b. cond b (decode a.line.now) a.frame.now) yes)))
     (omega arith) c.print_frame.ensures
 
-pub returns : goal.returns
-returns c =
+pub returns-else-decode : goal.returns-else-decode
+returns-else-decode c =
     let a = c.args in
     let h = c.requires in
     let d = c.decode in

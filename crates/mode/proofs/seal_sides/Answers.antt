@@ -15,9 +15,9 @@ pub returns : goal.returns
 unfolding sides remote_block
 returns c =
     let a = c.args in
-    let E : ℕ → ℕ = cipher_number a.w.now in
+    let E : ℕ → ℕ = cipher_number a.pads.now.words.now in
     let p : List ℕ = a.p.now in
     let g : ℕ = value a.tag in
     let plain : Plain (length p) p = record { long = refl; bytes = bytes_all p (λ i h. (c.type_inv.p i).fits) } in
     let r = c.transform.ensures in
-    (c.xor_bytes.ensures ∙ ap (λ (x : List ℕ). xor_bytes x p) r ∙ sides_other E (cipher_lt a.w.now) (length p) c.requires.1 g p plain, r)
+    (c.xor_bytes.ensures ∙ ap (λ (x : List ℕ). xor_bytes x p) r ∙ sides_other E (cipher_lt a.pads.now.words.now) (length p) c.requires.0 g p plain, r)

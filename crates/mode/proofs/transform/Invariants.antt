@@ -1,5 +1,4 @@
-use mathlib.Core.Path.{◌≡◌}
-use Prim.Native.Nat.{◌-◌, ◌≤◌}
+use Rattle.std.proofs.Common.{◌≡◌}
 use Rattle.block.specs.Value.{value}
 use Rattle.fips197.specs.Aes.{cipher_number}
 use Rattle.mode.specs.Sealing.{times_x, pad}
@@ -8,7 +7,4 @@ use Rattle.mode.proofs.Blockwise.{Written}
 use Rattle.mode.proofs.transform.Given as goal
 
 abbrev pub invariant-loop-j : goal.invariant-loop-j
-invariant-loop-j l = (l.j ≤ l.m) × (value l.mask ≡ times_x l.j (value l.initial.mask)) × Written (λ n v. transformed l.how (pad (cipher_number l.w) (value l.tag) n) v) l.x l.initial.out l.j l.out
-
-abbrev pub decreases-loop-j : goal.decreases-loop-j
-decreases-loop-j l = l.m - l.j
+invariant-loop-j l = (value l.mask ≡ times_x l.j (value l.initial.mask)) × Written (λ n v. transformed l.how (pad (cipher_number l.pads.words.now) (value l.tag) n) v) l.x l.initial.out l.j l.out

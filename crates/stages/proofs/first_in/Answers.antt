@@ -1,15 +1,11 @@
 use Rattle.stages.proofs.Stages.{first_whole, first_doubtful, first_refused}
-use borrow.Author.Rules.{rules}
 use Rattle.stages.proofs.first_in.Goals as goal
 
-pub write_side-requires : goal.write_side-requires
-write_side-requires c = search (rules, c.requires)
+pub returns-in-Ok-Whole : goal.returns-in-Ok-Whole
+returns-in-Ok-Whole c = let a = c.in-Ok-Whole in first_whole _ _ _ _ _ _ _ _ _ _ a.ensures a.field-0-is c.tag_block-g.ensures c.write_side.ensures
 
-pub returns-in-Whole : goal.returns-in-Whole
-returns-in-Whole c = search first_whole
+pub returns-in-Ok-Doubtful : goal.returns-in-Ok-Doubtful
+returns-in-Ok-Doubtful c = let a = c.in-Ok-Doubtful in first_doubtful _ _ _ _ _ _ _ _ _ _ a.ensures a.field-0-is
 
-pub returns-in-Doubtful : goal.returns-in-Doubtful
-returns-in-Doubtful c = search first_doubtful
-
-pub returns-in-Refused : goal.returns-in-Refused
-returns-in-Refused c = search first_refused
+pub returns-in-Err : goal.returns-in-Err
+returns-in-Err c = let a = c.in-Err in first_refused _ _ _ _ _ _ _ _ _ _ _ a.ensures

@@ -1,16 +1,9 @@
-use mathlib.Core.Path.{◌∙◌}
-use Rattle.images.proofs.Rooms.{within_same}
-use Rattle.stages.proofs.Mends.{mend_whole, mend_doubtful, mend_refused}
+use Rattle.stages.proofs.Mends.{mend_whole, mend_refused}
+use borrow.Author.Rules.{rules}
 use Rattle.stages.proofs.mend_in.Goals as goal
 
-pub write_place-requires : goal.write_place-requires
-write_place-requires c = let p = c.requires in (p.0, within_same (c.judge_part.auto.out ∙ p.2.plain_size) p.1)
+pub returns-in_default : goal.returns-in_default
+returns-in_default c = mend_whole _ _ _ _ _ _ _ _ c.in_ok-found.ensures c.in_default.is
 
-pub returns-in-Whole : goal.returns-in-Whole
-returns-in-Whole c = search mend_whole
-
-pub returns-in-Doubtful : goal.returns-in-Doubtful
-returns-in-Doubtful c = search (mend_doubtful, c.judge_part.auto.out, c.requires)
-
-pub returns-in-Refused : goal.returns-in-Refused
-returns-in-Refused c = search mend_refused
+pub returns-in_err-found : goal.returns-in_err-found
+returns-in_err-found c = let a = c.in_err-found in mend_refused _ _ _ _ _ _ _ _ _ a.ensures (search rules)

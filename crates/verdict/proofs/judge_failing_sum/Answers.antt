@@ -1,35 +1,37 @@
-use Rattle.block.proofs.Lists.{bytes_all}
-use Rattle.verdict.proofs.Judging.{known_of, clash_both, left_only, right_only, none_fits}
+use mathlib.Core.Path.{◌≡◌}
+use mathlib.Core.Bool.{true, false}
+use Rattle.block.specs.Value.{value}
+use Rattle.verdict.proofs.Judging.{clash_both, left_only, right_only, none_fits}
 use Rattle.verdict.proofs.judge_failing_sum.Goals as goal
 
-pub returns-then-from_remote : goal.returns-then-from_remote
-returns-then-from_remote c =
-    let known = known_of c.requires.1 (bytes_all c.args.local.now (λ i h. (c.type_inv.local i).fits)) (bytes_all c.args.tag.now (λ i h. (c.type_inv.tag i).fits)) (bytes_all c.args.remote.now (λ i h. (c.type_inv.remote i).fits)) in
-    let a = c.args in
-    let left = c.opens-from_local.ensures in
-    let right = c.opens-from_remote.ensures in
-    clash_both a.w.now a.powers.now a.ctx a.local.now a.tag.now a.remote.now known a.out.now c.requires.4 left right c.if-from_local.true c.if-from_remote.true
+pub returns-in-true-true : goal.returns-in-true-true
+returns-in-true-true c =
+    let left = c.opens-from_local in
+    let right = c.opens-from_remote in
+    let x : left.result ≡ true = search in
+    let y : right.result ≡ true = search in
+    clash_both c.args.keyed.now (value c.args.tweak) c.args.part.now c.args.out.now c.requires.3 left.ensures.opened left.ensures.has_tag right.ensures.opened right.ensures.has_tag x y
 
-pub returns-then-from_local : goal.returns-then-from_local
-returns-then-from_local c =
-    let known = known_of c.requires.1 (bytes_all c.args.local.now (λ i h. (c.type_inv.local i).fits)) (bytes_all c.args.tag.now (λ i h. (c.type_inv.tag i).fits)) (bytes_all c.args.remote.now (λ i h. (c.type_inv.remote i).fits)) in
-    let a = c.args in
-    let left = c.opens-from_local.ensures in
-    let right = c.opens-from_remote.ensures in
-    left_only a.w.now a.powers.now a.ctx a.local.now a.tag.now a.remote.now known a.out.now c.requires.4 left right c.if-from_local.true c.if-from_remote.false c.copy.ensures
+pub returns-in-true-false : goal.returns-in-true-false
+returns-in-true-false c =
+    let left = c.opens-from_local in
+    let right = c.opens-from_remote in
+    let x : left.result ≡ true = search in
+    let y : right.result ≡ false = search in
+    left_only c.args.keyed.now (value c.args.tweak) c.args.part.now c.args.out.now c.requires.3 left.ensures.opened left.ensures.has_tag right.ensures.opened right.ensures.has_tag x y c.copy.ensures
 
-pub returns-then-from_remote-2 : goal.returns-then-from_remote-2
-returns-then-from_remote-2 c =
-    let known = known_of c.requires.1 (bytes_all c.args.local.now (λ i h. (c.type_inv.local i).fits)) (bytes_all c.args.tag.now (λ i h. (c.type_inv.tag i).fits)) (bytes_all c.args.remote.now (λ i h. (c.type_inv.remote i).fits)) in
-    let a = c.args in
-    let left = c.opens-from_local.ensures in
-    let right = c.opens-from_remote.ensures in
-    right_only a.w.now a.powers.now a.ctx a.local.now a.tag.now a.remote.now known a.out.now c.requires.4 left right c.if-from_local.false c.if-from_remote-2.true c.copy-then-from_remote-2.ensures
+pub returns-in-false-true : goal.returns-in-false-true
+returns-in-false-true c =
+    let left = c.opens-from_local in
+    let right = c.opens-from_remote in
+    let x : left.result ≡ false = search in
+    let y : right.result ≡ true = search in
+    right_only c.args.keyed.now (value c.args.tweak) c.args.part.now c.args.out.now c.requires.3 left.ensures.opened left.ensures.has_tag right.ensures.opened right.ensures.has_tag x y c.copy-in-false-true.ensures
 
-pub returns : goal.returns
-returns c =
-    let known = known_of c.requires.1 (bytes_all c.args.local.now (λ i h. (c.type_inv.local i).fits)) (bytes_all c.args.tag.now (λ i h. (c.type_inv.tag i).fits)) (bytes_all c.args.remote.now (λ i h. (c.type_inv.remote i).fits)) in
-    let a = c.args in
-    let left = c.opens-from_local.ensures in
-    let right = c.opens-from_remote.ensures in
-    none_fits a.w.now a.powers.now a.ctx a.local.now a.tag.now a.remote.now known a.out.now c.requires.4 left right c.if-from_local.false c.if-from_remote-2.false
+pub returns-in-false-false : goal.returns-in-false-false
+returns-in-false-false c =
+    let left = c.opens-from_local in
+    let right = c.opens-from_remote in
+    let x : left.result ≡ false = search in
+    let y : right.result ≡ false = search in
+    none_fits c.args.keyed.now (value c.args.tweak) c.args.part.now c.args.out.now c.requires.3 left.ensures.opened left.ensures.has_tag right.ensures.opened right.ensures.has_tag x y

@@ -1,13 +1,12 @@
+use Rattle.std.proofs.Common.{arith}
 use Rattle.block.specs.Value.{value}
 use Rattle.block.proofs.Lists.{bytes_all}
-use Rattle.verdict.specs.Judging.{side_named}
-use Rattle.verdict.proofs.Sides.{side_opened, tag_compared}
+use Rattle.verdict.proofs.Sides.{tag_tested}
 use Rattle.verdict.proofs.opens.Goals as goal
 
-pub returns : goal.returns
-returns c =
+pub returns-clause-has_tag : goal.returns-clause-has_tag
+returns-clause-has_tag c =
     let a = c.args in
-    let size = c.requires.1.tag_size in
+    let k = a.keyed.now in
     let bytes = bytes_all a.tag.now (λ i h. (c.type_inv.tag i).fits) in
-    let k = c.load-g.ensures in
-    (side_opened a.w.now a.powers.now (value a.ctx.tweak) a.tag.now size bytes (side_named a.side) a.x.now _ k c.opening.ensures c.transform.ensures, tag_compared a.w.now a.powers.now (value a.ctx.tweak) a.tag.now size bytes _ _ _ c.tag_block.ensures k c.equal.ensures)
+    tag_tested k.pads.words.now k.powers.now.words (value a.tweak) a.tag.now c.requires.tag_size bytes _ _ _ (omega arith) (omega arith) c.tag_block.ensures c.load-expected.ensures c.eq.ensures
