@@ -2,5 +2,4 @@ pub mod Answers
 pub mod Rules
 pub mod Keys
 pub mod Passing
-pub mod ByteLists
 pub mod Lent

@@ -94,7 +94,6 @@ pub fn check_frame(frame: &[u8]) -> Result<(), Refusal>
 // ---- the call
 
 // Judges a frame 01, which has no volume's number, under 0: its parts are lent on, and the plaintext goes to `plain`.
-#[tactic(auto, using(block::proofs::Lists::bytes_all))]
 fn judge_frame(frame: &[u8], plain: &mut [u8]) -> Result<Found, Refusal>
     requires { length frame.now ≡ 57 + 2 * length plain.old }
     ensures { judged frame.now plain.old ≡ (judged_number result, plain.new) }

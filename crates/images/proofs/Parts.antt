@@ -13,7 +13,7 @@ use Rattle.std.specs.Prelude.{nat_eq}
 use Rattle.block.specs.Bytes.{Bytes, from_bytes, to_bytes, part, patch, same}
 use Rattle.block.specs.declared.Block.{Block}
 use Rattle.block.specs.Value.{value}
-use Rattle.block.proofs.Lists.{bytes_take, bytes_drop, eq_same, same_ne, same_pointwise}
+use Rattle.block.proofs.Lists.{eq_same, same_ne, same_pointwise}
 use Rattle.block.proofs.Numbers.{from_to, to_from}
 use Rattle.block.proofs.Parts.{bytes_part}
 use Rattle.block.proofs.Words.{equal_blocks}
@@ -33,9 +33,6 @@ unfolding patch
 lent_patch w i image b = ap (λ (z : List ℕ). take (i * w) image ++ (b ++ z)) (Post-is (i * w) (i * w + w) image (omega arith))
 
 -- ---- parts that are read
-
-pub bytes_lent : (a k : ℕ) (image : List ℕ) → Bytes image → Bytes (mid_of a k image)
-bytes_lent a k image h = bytes_take k (drop a image) (bytes_drop a image h)
 
 pub lent_sector : (s i : ℕ) (l g r : List ℕ)
     → triple (mid_of (i * s) (i * s + s - i * s) l) (mid_of (i * 16) (i * 16 + 16 - i * 16) g) (mid_of (i * s) (i * s + s - i * s) r) ≡ sector_of s i (triple l g r)

@@ -29,7 +29,7 @@ pub struct Sector<'a> {
 
 impl<'a> Sector<'a> {
     // The sector's three places.
-    #[tactic(auto, using(crate::proofs::Parts::bytes_lent, crate::proofs::Parts::lent_sector))]
+    #[tactic(auto, using(crate::proofs::Parts::lent_sector))]
     pub fn places(&self) -> Places<'a>
         ensures { triple_of result ≡ sector_of self.now.size self.now.number (triple_of self.now.images) }
     {
@@ -85,7 +85,6 @@ pub fn write_tag(g: Block, i: usize, tags: &mut [u8])
 }
 
 // Whether sector i of the local image is p's local sector, where p's tag is g.
-#[tactic(auto, using(crate::proofs::Parts::lent_compared))]
 pub fn fits_local(
     pads: &Pads,
     g: Block,

@@ -100,7 +100,6 @@ fn run_stages(
 
 // Judges sector i, mends it if doubtful, then runs the three stages with p. Refuses as a read does, with p's length for its output's; else
 // gives the verdict that it found.
-#[tactic(auto, using(block::proofs::Lists::bytes_all))]
 pub fn write(
     volume: &Volume,
     i: usize,

@@ -52,7 +52,6 @@ pub fn mirror_seal(
     number_of(sector::seal(&at, plain, local, tag, remote))
 }
 
-#[tactic(auto, using(block::proofs::Lists::bytes_all))]
 pub fn mirror_judge(
     key: &[u8],
     volume: u64,
@@ -208,7 +207,6 @@ pub fn mirror_third_stage(
     number_of(mapped::third_stage(&lent, number, plain, local, tags, remote, map))
 }
 
-#[tactic(auto, using(block::proofs::Lists::bytes_all))]
 pub fn mirror_read(
     key: &[u8],
     volume: u64,
@@ -297,7 +295,7 @@ fn count_numbers(c: Counts) -> [u64; 5]
 }
 
 // `counts` is given whole, doubtful, clashing, lost and the health; `list` is in repair order.
-#[tactic(auto, using(block::proofs::Lists::bytes_all, crate::proofs::Numbers::survey_refused))]
+#[tactic(auto, using(crate::proofs::Numbers::survey_refused))]
 pub fn mirror_survey(
     key: &[u8],
     volume: u64,

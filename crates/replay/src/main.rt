@@ -98,11 +98,6 @@ fn side(bytes: &[u8]) -> u32 {
     (number(bytes) % 0x1_0000_0000) as u32
 }
 
-#[tactic(auto, using(block::proofs::Lists::bytes_all))]
-fn places<'a>(local: &'a [u8], tag: &'a [u8], remote: &'a [u8]) -> Places<'a> {
-    Places { local, tag, remote }
-}
-
 // The fields of a frame that are not taken yet.
 #[derive(Clone, Copy)]
 struct Fields<'a> {
@@ -205,7 +200,11 @@ fn agrees<F: FnOnce(&mut [u8]) -> u8>(due: Due, call: F) -> Option<bool>
 fn judge_agrees(frame: &[u8]) -> Option<bool> {
     let mut fields = Fields::of(frame)?;
     let at = fields.location()?;
-    let places = places(fields.take()?, fields.take()?, fields.take()?);
+    let places = Places {
+        local: fields.take()?,
+        tag: fields.take()?,
+        remote: fields.take()?,
+    };
     agrees(
         fields.due()?,
         |out: &mut [u8]| sector::judge(&at, places, out).number(),

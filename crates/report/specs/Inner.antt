@@ -1,4 +1,4 @@
--- One more in a count, for the laws here and the code of the survey. Assumes nothing: this is a definition.
+-- One more in a count, for the laws here. Assumes nothing: this is a definition.
 use Rattle.std.specs.Prelude.{Bool, cond, ℕ, suc}
 
 -- one more, if so

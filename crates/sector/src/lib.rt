@@ -212,8 +212,9 @@ fn open_as(
     ensures { open_as wanted (key_from at.now.key.now) at.now.volume at.now.address side x.now tag.now out.old
         ≡ (done_number result, out.new) }
 {
-    let side = answers::check_open(at.key, x.len(), out.len(), tag.len(), side)?;
-    open_checked(wanted, at, side, x, tag, out)
+    // The check shows that the number is a side's; which side it is, `side_numbered` says.
+    answers::check_open(at.key, x.len(), out.len(), tag.len(), side)?;
+    open_checked(wanted, at, verdict::side_numbered(side), x, tag, out)
 }
 
 // Gives the one plaintext that fits the tag and the sector x of a side, by the number that C has for it: 0 is local, 1 remote.

@@ -18,7 +18,6 @@ use images::Sector;
 use mode::{Direction, Keyed};
 
 // The first stage with a prepared key: p's local sector, if the sector is whole.
-#[tactic(auto, using(block::proofs::Lists::bytes_all))]
 pub fn first_in(
     keyed: &Keyed,
     tweak: Block,
@@ -150,7 +149,7 @@ fn write_place(
 }
 
 // The mend with a prepared key: the doubtful place as the one plaintext seals.
-#[tactic(auto, using(block::proofs::Lists::bytes_all, crate::proofs::Mends::mend_doubtful))]
+#[tactic(auto, using(crate::proofs::Mends::mend_doubtful))]
 pub fn mend_in(
     keyed: &Keyed,
     tweak: Block,

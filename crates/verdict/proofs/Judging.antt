@@ -5,7 +5,7 @@ use mathlib.Core.List.{List}
 use Prim.Native.Nat.{ℕ, ◌^◌, ◌<◌}
 use lib.Dec.{eqb}
 use lib.ListN.{length, take, drop}
-use Rattle.block.specs.Bytes.{Plain, from_bytes, xor_bytes, same}
+use Rattle.block.specs.Bytes.{Bytes, Plain, from_bytes, xor_bytes, same}
 use Rattle.block.specs.declared.Block.{Block}
 use Rattle.block.specs.Value.{value}
 use Rattle.std.specs.Prelude.{nat_eq}
@@ -29,7 +29,7 @@ use Rattle.verdict.proofs.JudgeExact.{fits-Fits, misfits}
 use Rattle.verdict.proofs.Cases as cases
 use Rattle.verdict.proofs.Sides.{tag_tested}
 
-module _ (k : Keyed) (T : ℕ) (part : Part) where
+module _ (k : Keyed) (T : ℕ) (part : Part) (bl : Bytes part.places.local.now) (bg : Bytes part.places.tag.now) (br : Bytes part.places.remote.now) where
   abbrev w : List ℕ
   w = k.pads.words.now
 
@@ -58,9 +58,9 @@ module _ (k : Keyed) (T : ℕ) (part : Part) where
   sector = record { places = at }
     where
       at : (q : Place) → Plain (wide (length l) q) (on t q)
-      at local = record { long = refl; bytes = part.places.local_bytes }
-      at tag = record { long = part.sizes.tag_size; bytes = part.places.tag_bytes }
-      at remote = record { long = part.sizes.first; bytes = part.places.remote_bytes }
+      at local = record { long = refl; bytes = bl }
+      at tag = record { long = part.sizes.tag_size; bytes = bg }
+      at remote = record { long = part.sizes.first; bytes = br }
 
   -- ---- the tests
 
@@ -124,7 +124,7 @@ module _ (k : Keyed) (T : ℕ) (part : Part) where
     module _ (n : Block) (y : Bool) (lh : h.lo < 2 ^ 64) (ln : n.lo < 2 ^ 64) (en : value n ≡ from_bytes (take 16 (drop 0 g))) (ey : y ≡ (eqb h.hi n.hi && eqb h.lo n.lo)) (tx : x ≡ true) where
       tag_test : y ≡ fits S T t tag sum
       unfolding fits
-      tag_test = tag_tested w p T g part.sizes.tag_size part.places.tag_bytes sum h n lh ln eh en ey
+      tag_test = tag_tested w p T g part.sizes.tag_size bg sum h n lh ln eh en ey
 
       pub sum_misses_tag : y ≡ false → fits S T t tag sum ≡ false
       sum_misses_tag ny = sym tag_test ∙ ny

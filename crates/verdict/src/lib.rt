@@ -19,7 +19,7 @@ use block::Block;
 use mode::{Direction, Keyed};
 pub use part::Part;
 
-// The side with this number, 0 or 1, of a number that is checked; `Side::try_from` is the check.
+// The side with this number, 0 or 1, of a number that `answers::check_open` has let pass.
 pub fn side_numbered(number: u32) -> Side
     ensures { side_named result ≡ side_of number }
 {
@@ -76,6 +76,7 @@ fn judge_fitting_sum(
         × SumFits (scheme_lent keyed.now) (value tweak) (triple_of part.now.places) sum.now }
     ensures { judged_by (scheme_lent keyed.now) (value tweak) (triple_of part.now.places) out.old ≡ (judged_number result, out.new) }
 {
+    part.has_bytes();
     let places = part.places;
     let from_local = opens(keyed, tweak, Side::Local, places.local, places.tag, scratch);
     if from_local {
@@ -110,6 +111,7 @@ fn judge_failing_sum(
         × SumFails (scheme_lent keyed.now) (value tweak) (triple_of part.now.places) }
     ensures { judged_by (scheme_lent keyed.now) (value tweak) (triple_of part.now.places) out.old ≡ (judged_number result, out.new) }
 {
+    part.has_bytes();
     let places = part.places;
     let from_local = opens(keyed, tweak, Side::Local, places.local, places.tag, left);
     let from_remote = opens(keyed, tweak, Side::Remote, places.remote, places.tag, right);
@@ -143,6 +145,7 @@ pub fn judge_in(
         × (length scratch.old ≡ length part.now.places.local.now) }
     ensures { judged_by (scheme_lent keyed.now) (value tweak) (triple_of part.now.places) out.old ≡ (judged_number result, out.new) }
 {
+    part.has_bytes();
     let places = part.places;
     block::xor_bytes(places.local, places.remote, sum);
     let tag = mode::tag_block(keyed, tweak, &sum[..]);

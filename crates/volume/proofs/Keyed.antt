@@ -41,4 +41,5 @@ module _ (K : Key) {S R : Scheme} (lent : S ≡ R) (prepared : R ≡ scheme K) {
   unfolding late_outcome
   blank_keyed s v h {x} e =
       let z : take {A = ℕ} s (replicate 4096 0) ≡ replicate s 0 = take_zeros s 4096 h in
-      late_keyed s v blank (λ j. (0, sym (e ∙ (λ k. seal_into S T (prefix_size s 0 h k) i (z k) all_places v)) j))
+      let sealed_zeros : x ≡ seal_into (mirror K volume) i s i (replicate s 0) all_places v = seals_keyed s (replicate s 0) all_places v (e ∙ (λ k. seal_into S T (prefix_size s 0 h k) i (z k) all_places v)) in
+      λ j. (0, sym sealed_zeros j)
