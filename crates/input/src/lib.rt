@@ -28,7 +28,7 @@ struct Fed {
 }
 
 // Puts a stretch of a line behind its first `used` bytes, as far as there is room, and gives how many bytes are held then. Where there is
-// nothing to put it calls no copy: an input of empty lines takes a third more time with it.
+// nothing to put it calls no copy, which would cost an input of empty lines at each of them.
 fn hold(part: &[u8], line: &mut [u8], used: usize) -> usize
     requires { (length line.old ≡ 16499) × (used ≤ 16499) }
     ensures { (take result line.new ≡ held (take used line.old ++ part.now)) × (result ≤ 16499) × (result ≤ used + length part.now) }
